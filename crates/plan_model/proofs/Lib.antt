@@ -1,0 +1,12 @@
+pub mod Examples
+pub mod SumLaws
+pub mod DualityLaws
+pub mod Below
+pub mod Bound
+pub mod LowerBound
+pub mod Saved
+pub mod CertifiedLaws
+pub mod ShiftLaws
+pub mod ExamplePlan
+pub mod PlaceLaws
+pub mod LifeLaws

@@ -1,0 +1,12 @@
+pub mod Pairs
+pub mod Alignments
+pub mod Flows
+pub mod Schedules
+pub mod Lives
+pub mod Buffers
+pub mod Certified
+pub mod Places
+pub mod Duality
+pub mod Counts
+pub mod Optimal
+pub mod Results
