@@ -1,0 +1,5 @@
+use Rattle.graph_model.proofs.GraphTimes.{input_formula as law}
+use Rattle.graph_model.proofs.laws.input_formula.Goals as goal
+
+pub returns : goal.returns
+returns c = law
