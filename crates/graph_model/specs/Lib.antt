@@ -7,6 +7,7 @@ pub mod Ranges
 pub mod Members
 pub mod Graphs
 pub mod Paths
+pub mod Orders
 pub mod Answers
 pub mod Bounds
 pub mod Checks

@@ -1,4 +1,11 @@
+pub mod Counts
 pub mod Examples
+pub mod ExampleTools
+pub mod ExampleAlignments
+pub mod ExampleFlows
+pub mod ExampleSchedules
+pub mod ExampleOrders
+pub mod ExampleBuffers
 pub mod SumLaws
 pub mod DualityLaws
 pub mod Below
@@ -7,6 +14,13 @@ pub mod LowerBound
 pub mod Saved
 pub mod CertifiedLaws
 pub mod ShiftLaws
+pub mod ExampleRules
+pub mod ExampleStraight
 pub mod ExamplePlan
+pub mod ExampleRefused
+pub mod ExamplePlaces
 pub mod PlaceLaws
 pub mod LifeLaws
+pub mod UniqueLaws
+pub mod Distinct
+pub mod WaveLaws

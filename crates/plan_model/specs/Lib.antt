@@ -7,6 +7,5 @@ pub mod Buffers
 pub mod Certified
 pub mod Places
 pub mod Duality
-pub mod Counts
 pub mod Optimal
 pub mod Results

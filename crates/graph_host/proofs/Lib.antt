@@ -1,0 +1,5 @@
+pub mod ChannelLaws
+pub mod ReadingLaws
+pub mod OutputLaws
+pub mod PartLaws
+pub mod EndLaws

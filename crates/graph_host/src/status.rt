@@ -1,0 +1,22 @@
+//! The exit status of each end.
+
+ghost use Rattle.std.specs.Prelude.{◌≡◌};
+ghost use Rattle.graph_host.specs.Ends.{status_of};
+
+use crate::ends::{End, Run};
+
+/// An end with its status.
+pub(crate) fn ended(end: End) -> Run
+    ensures end { result.end ≡ end }
+    ensures status { result.status ≡ status_of end }
+{
+    let status = match end {
+        End::Done => 0,
+        End::Words => 2,
+        End::ReadFault => 5,
+        End::WriteFault => 6,
+        End::Memory => 8,
+        End::NotBuilt => 10,
+    };
+    Run { status, end }
+}

@@ -1,0 +1,219 @@
+//! What no clause says: worked examples in their bytes, and each call of the outside failing in turn.
+
+use crate::{End, Run, run};
+use gh_outside::{MemoryFolder, MemorySink};
+use graph_model::List;
+use std::alloc::{AllocError, Global};
+use std::process::Abort;
+use std::test::Fail;
+use std::thread::Threads;
+
+/// A straight connection from the input to the output.
+const STRAIGHT: &[u8] =
+    b"{\"FILTERGRAPH\":{\"CONNECTION\":[{\"dstChannel\":0,\"dstFilter\":2,\"srcChannel\":0,\"srcFilter\":1}],\"FILTER\":[{\"channels\":1,\"kind\":\"input\",\"uid\":1},{\"channels\":1,\"kind\":\"output\",\"uid\":2}]}}";
+
+/// A gain of one half between input and output, which stands before the output in the records.
+const HALF: &[u8] =
+    b"{\"FILTERGRAPH\":{\"FILTER\":[{\"uid\":1,\"kind\":\"input\",\"channels\":1},{\"uid\":3,\"kind\":\"gain\",\"channels\":1,\"gain\":32768},{\"uid\":2,\"kind\":\"output\",\"channels\":1}],\"CONNECTION\":[{\"srcFilter\":1,\"srcChannel\":0,\"dstFilter\":3,\"dstChannel\":0},{\"srcFilter\":3,\"srcChannel\":0,\"dstFilter\":2,\"dstChannel\":0}]}}";
+
+/// The samples 100, -200, 300 of 16 bits, mono, 48,000 frames a second.
+const THREE_FRAMES: &[u8] =
+    b"RIFF\x2A\0\0\0WAVEfmt \x10\0\0\0\x01\0\x01\0\x80\xBB\0\0\0\x77\x01\0\x02\0\x10\0data\x06\0\0\0\x64\0\x38\xFF\x2C\x01";
+
+/// The samples 100, -3, 5, and half of each, rounded to the nearest, a half upward: 50, -1, 3.
+const SMALL: &[u8] =
+    b"RIFF\x2A\0\0\0WAVEfmt \x10\0\0\0\x01\0\x01\0\x80\xBB\0\0\0\x77\x01\0\x02\0\x10\0data\x06\0\0\0\x64\0\xFD\xFF\x05\0";
+
+const SMALL_HALVED: &[u8] =
+    b"RIFF\x2A\0\0\0WAVEfmt \x10\0\0\0\x01\0\x01\0\x80\xBB\0\0\0\x77\x01\0\x02\0\x10\0data\x06\0\0\0\x32\0\xFF\xFF\x03\0";
+
+/// A file without frames.
+const NO_FRAMES: &[u8] =
+    b"RIFF\x24\0\0\0WAVEfmt \x10\0\0\0\x01\0\x01\0\x80\xBB\0\0\0\x77\x01\0\x02\0\x10\0data\0\0\0\0";
+
+/// A folder with a graph and a file, and with room for an output, in which these calls fail.
+fn folder(
+    alloc: Global,
+    graph: &[u8],
+    input: &[u8],
+    fails: &[u64],
+) -> Result<MemoryFolder, AllocError> {
+    let mut folder = MemoryFolder::new(alloc, List::from_slice(alloc, fails)?)?;
+    folder.put_file("g.json", graph)?;
+    folder.put_file("in.wav", input)?;
+    folder.make_room("out.wav", 100)?;
+    Ok(folder)
+}
+
+/// The words of a command line.
+fn words(alloc: Global, line: &str) -> Result<Vec<String>, AllocError> {
+    let mut words = Vec::new(alloc);
+    for word in line.split(' ') {
+        words.push(String::from_str(alloc, word)?)?;
+    }
+    Ok(words)
+}
+
+/// Runs a command line over a folder and a report that nothing is to be put on.
+fn run_line<R: Abort + Threads + Sync + AllocGlobal>(
+    rt: &R,
+    folder: &mut MemoryFolder,
+    line: &str,
+) -> Result<Run, AllocError> {
+    let alloc = rt.alloc();
+    let mut report = MemorySink::new(alloc, List::new(alloc), 100)?;
+    let run = run(rt, alloc, words(alloc, line)?, folder, &mut report);
+    assert_eq!(rt; report.bytes(), [].as_slice());
+    assert_eq!(rt; report.faults(), 0);
+    Ok(run)
+}
+
+const RENDER: &str = "render g.json in.wav out.wav";
+
+#[test]
+fn examples_in_their_bytes(rt: HostRuntime) -> Result<(), Fail> {
+    let cases = [
+        (STRAIGHT, THREE_FRAMES, THREE_FRAMES),
+        (STRAIGHT, NO_FRAMES, NO_FRAMES),
+        (HALF, SMALL, SMALL_HALVED),
+        (HALF, NO_FRAMES, NO_FRAMES),
+    ];
+    for (graph, input, output) in cases {
+        let mut folder = folder(rt.alloc(), graph, input, &[])?;
+        folder.put_file("out.wav", b"what was there before")?;
+        let run = run_line(&rt, &mut folder, RENDER)?;
+        assert_eq!(rt;
+            run,
+            Run {
+                status: 0,
+                end: End::Done
+            }
+        );
+        assert_eq!(rt; folder.file("out.wav"), Some(output));
+        assert_eq!(rt; folder.file("g.json"), Some(graph));
+        assert_eq!(rt; folder.file("in.wav"), Some(input));
+    }
+    Ok(())
+}
+
+#[test]
+fn each_call_of_the_folder_fails_in_turn(rt: HostRuntime) -> Result<(), Fail> {
+    // the number of the call, the status, how much of the output is there, and the faults of reading and writing
+    let cases: [(u64, u8, Option<usize>, u64, u64); 9] = [
+        (0, 5, None, 1, 0),
+        (1, 5, None, 1, 0),
+        (2, 5, None, 1, 0),
+        (3, 5, None, 1, 0),
+        (4, 5, None, 1, 0),
+        (5, 6, None, 0, 1),
+        (6, 6, Some(22), 0, 1),
+        (7, 6, Some(47), 0, 1),
+        (8, 0, Some(50), 0, 0),
+    ];
+    for (call, status, kept, read_faults, write_faults) in cases {
+        let mut folder = folder(rt.alloc(), STRAIGHT, THREE_FRAMES, &[call])?;
+        let run = run_line(&rt, &mut folder, RENDER)?;
+        assert_eq!(rt; run.status, status, "call {call}");
+        assert_eq!(rt;
+            folder.file("out.wav"),
+            kept.and_then(|kept| THREE_FRAMES.get(..kept)),
+            "call {call}"
+        );
+        assert_eq!(rt; folder.file("g.json"), Some(STRAIGHT), "call {call}");
+        assert_eq!(rt; folder.file("in.wav"), Some(THREE_FRAMES), "call {call}");
+        assert_eq!(rt; folder.read_faults(), read_faults, "call {call}");
+        assert_eq!(rt; folder.write_faults(), write_faults, "call {call}");
+    }
+    Ok(())
+}
+
+#[test]
+fn a_room_too_small_for_the_frames(rt: HostRuntime) -> Result<(), Fail> {
+    let alloc = rt.alloc();
+    let mut folder = MemoryFolder::new(alloc, List::new(alloc))?;
+    folder.put_file("g.json", STRAIGHT)?;
+    folder.put_file("in.wav", THREE_FRAMES)?;
+    folder.make_room("out.wav", 44)?;
+    let run = run_line(&rt, &mut folder, RENDER)?;
+    assert_eq!(rt;
+        run,
+        Run {
+            status: 6,
+            end: End::WriteFault
+        }
+    );
+    assert_eq!(rt; folder.file("out.wav"), THREE_FRAMES.get(..44));
+    assert_eq!(rt; folder.write_faults(), 1);
+    Ok(())
+}
+
+#[test]
+fn refusals_leave_everything(rt: HostRuntime) -> Result<(), Fail> {
+    let stereo =
+        b"RIFF\x24\0\0\0WAVEfmt \x10\0\0\0\x01\0\x02\0\x80\xBB\0\0\0\xEE\x02\0\x04\0\x10\0data\0\0\0\0";
+    let cases: [(&str, &[u8], &[u8], u8, &str); 10] = [
+        (
+            "render",
+            STRAIGHT,
+            THREE_FRAMES,
+            2,
+            "the words are no request",
+        ),
+        (
+            "render g.json in.wav in.wav",
+            STRAIGHT,
+            THREE_FRAMES,
+            2,
+            "the words are no request",
+        ),
+        (
+            "render -g in.wav out.wav",
+            STRAIGHT,
+            THREE_FRAMES,
+            2,
+            "the words are no request",
+        ),
+        (
+            "compile g.json in.wav out.wav",
+            STRAIGHT,
+            THREE_FRAMES,
+            2,
+            "the words are no request",
+        ),
+        (
+            "render none in.wav out.wav",
+            STRAIGHT,
+            THREE_FRAMES,
+            5,
+            "a read failed",
+        ),
+        (
+            "render g.json none out.wav",
+            STRAIGHT,
+            THREE_FRAMES,
+            5,
+            "a read failed",
+        ),
+        (RENDER, b"{", THREE_FRAMES, 10, "not built yet"),
+        (RENDER, STRAIGHT, b"RIFF", 10, "not built yet"),
+        (RENDER, STRAIGHT, stereo.as_slice(), 10, "not built yet"),
+        (RENDER, STRAIGHT, &THREE_FRAMES[..49], 10, "not built yet"),
+    ];
+    for (line, graph, input, status, text) in cases {
+        let mut folder = folder(rt.alloc(), graph, input, &[])?;
+        folder.put_file("out.wav", b"before")?;
+        let run = run_line(&rt, &mut folder, line)?;
+        assert_eq!(rt; run.status, status, "{line}");
+        assert_eq!(rt; run.end.to_string(rt.alloc())?.as_str(), text, "{line}");
+        assert_eq!(rt;
+            folder.file("out.wav"),
+            Some(b"before".as_slice()),
+            "{line}"
+        );
+        assert_eq!(rt; folder.file("g.json"), Some(graph), "{line}");
+        assert_eq!(rt; folder.file("in.wav"), Some(input), "{line}");
+        assert_eq!(rt; folder.read_faults(), 0, "{line}");
+        assert_eq!(rt; folder.write_faults(), 0, "{line}");
+    }
+    Ok(())
+}

@@ -1,0 +1,4 @@
+pub mod Lists
+pub mod ForwardLemmas
+pub mod FitLemmas
+pub mod Examples

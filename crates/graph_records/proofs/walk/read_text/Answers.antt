@@ -1,0 +1,24 @@
+use Rattle.std.proofs.Common.{◌∙◌, sym, ap, subst, inl, inr, Result}
+use Rattle.serde_json.specs.View.{view}
+use Rattle.graph_model.specs.declared.graph.Graph.{Graph}
+use Rattle.graph_records.specs.declared.fault.RecordFault.{RecordFault}
+use Rattle.graph_model.specs.Refusals.{and_then, Gives}
+use Rattle.graph_records.specs.Walk.{graph_in}
+use Rattle.graph_records.proofs.Lists.{gives_fault, walk_none, walk_some}
+use Rattle.graph_records.proofs.walk.read_text.Goals as goal
+
+pub returns-in-Err : goal.returns-in-Err
+returns-in-Err c = elim c.refusal.ensures [
+  | inl memory ↦ rw memory tt
+  | inr text ↦ rw text.0 (walk_none c.args.bytes.now (c.in-Err.ensures.err text.1))
+]
+
+pub returns-in_err-records : goal.returns-in_err-records
+returns-in_err-records c =
+    let read = walk_some c.args.bytes.now (view c.in-Ok.value) c.in-Ok.ensures.ok.0 c.in-Ok.ensures.ok.1 in
+    gives_fault _ c.in_err-records.field-0.0 c.from_residual.result (read ∙ sym (ap (and_then graph_in) c.in_err-records.ensures)) c.from_residual.ensures.1
+
+pub returns : goal.returns
+returns c =
+    let read = walk_some c.args.bytes.now (view c.in-Ok.value) c.in-Ok.ensures.ok.0 c.in-Ok.ensures.ok.1 in
+    subst (λ (w : Result Graph RecordFault). Gives w c.read_records.result) (sym (read ∙ sym (ap (and_then graph_in) c.in_ok-records.ensures))) c.read_records.ensures

@@ -1,0 +1,54 @@
+-- What the examples of certified and of refused plans share: the rules as a list, and the first bad place.
+use Rattle.std.proofs.Common.{◌≡◌, ℕ, zero, suc, ◌<◌, List, [], ◌∷◌, length, get_or, take, refl, sym, ◌∙◌, subst, arith, ⊎_elim}
+use Rattle.std.specs.List.{AllByRecursion}
+use Rattle.std.proofs.lemmas.Bool.{cases_eq}
+use Rattle.std.proofs.lemmas.List.{get_or-take, length-take}
+use Rattle.std.proofs.lemmas.List.Elements.{All-from_recursion}
+use Rattle.graph_model.specs.declared.graph.Graph.{Graph}
+use Rattle.plan_model.specs.Certified.{Holds, number}
+use Rattle.plan_model.specs.Places.{IsFirstBad}
+use Rattle.plan_model.specs.declared.plan.Plan.{Plan}
+use Rattle.plan_model.specs.declared.plan.Rule.{Rule}
+use Rattle.plan_model.specs.declared.plan.Rule.TheVariants.{At, Input, Alignment, Latency, Lines, Total, Path, Longest, Arcs, Need, Bound, Least, Waves, Homes, Channels, Peak}
+
+abbrev pub rules : List Rule
+rules = At ∷ Input ∷ Alignment ∷ Latency ∷ Lines ∷ Total ∷ Path ∷ Longest ∷ Arcs ∷ Need ∷ Bound ∷ Least ∷ Waves ∷ Homes ∷ Channels ∷ Peak ∷ []
+
+abbrev IsAtNumber : Rule → Type 0
+IsAtNumber r = (number r < length rules) × (get_or rules (number r) r ≡ r)
+
+at_number : (r : Rule) → IsAtNumber r
+at_number At = (omega arith, refl)
+at_number Input = (omega arith, refl)
+at_number Alignment = (omega arith, refl)
+at_number Latency = (omega arith, refl)
+at_number Lines = (omega arith, refl)
+at_number Total = (omega arith, refl)
+at_number Path = (omega arith, refl)
+at_number Longest = (omega arith, refl)
+at_number Arcs = (omega arith, refl)
+at_number Need = (omega arith, refl)
+at_number Bound = (omega arith, refl)
+at_number Least = (omega arith, refl)
+at_number Waves = (omega arith, refl)
+at_number Homes = (omega arith, refl)
+at_number Channels = (omega arith, refl)
+at_number Peak = (omega arith, refl)
+
+-- the proofs of the rules before one, in their order
+pub earlier : (g : Graph) (plan : Plan) (rule : Rule) → AllByRecursion (Holds g plan) (take (number rule) rules) → (r : Rule) → number r < number rule → Holds g plan r
+earlier g plan rule h r l =
+    let within = (at_number r).0 in
+    subst (Holds g plan) (get_or-take (number rule) rules (number r) r l ∙ (at_number r).1)
+    (All-from_recursion (Holds g plan) (take (number rule) rules) h (number r) r (omega (arith, length-take (number rule) rules, (at_number rule).0)))
+
+abbrev pub AllBelow : (ℕ → Type 0) → ℕ → Type 0
+AllBelow P zero = Unit {0}
+AllBelow P (suc n) = AllBelow P n × P n
+
+pub below : (P : ℕ → Type 0) (n : ℕ) → AllBelow P n → (k : ℕ) → k < n → P k
+below P zero h k l = absurd (omega arith)
+below P (suc n) h k l = ⊎_elim (λ e. subst P (sym e) h.1) (λ ne. below P n h.0 k (omega arith)) (cases_eq k n)
+
+pub first_bad : (P : ℕ → Type 0) (n : ℕ) → AllBelow P n → (P n → ⊥) → IsFirstBad P n
+first_bad P n h bad = (below P n h, bad)

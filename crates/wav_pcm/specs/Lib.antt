@@ -1,0 +1,4 @@
+pub mod Samples
+pub mod Heads
+pub mod Files
+pub mod Laws
