@@ -1,0 +1,12 @@
+pub mod NameFacts
+pub mod LinkFacts
+pub mod OrderFacts
+pub mod OrderOnce
+pub mod CycleFacts
+pub mod MarkFacts
+pub mod OutputFacts
+pub mod ReachFacts
+pub mod PathFacts
+pub mod LiveFacts
+pub mod TestGraphs
+pub mod Examples

@@ -1,0 +1,8 @@
+pub mod Named
+pub mod Answers
+pub mod Laws
+pub mod Links
+pub mod Blocks
+pub mod Taken
+pub mod Marks
+pub mod Reaches

@@ -1,0 +1,19 @@
+//! Laws of the definitions.
+
+ghost use Rattle.topology.specs.Laws.{OrderIsUnique, ClosedWalkHasNoOrder, LiveIsListed};
+
+/// A graph has one order at most.
+pub fn order_is_unique()
+    ensures { OrderIsUnique }
+{}
+
+/// A graph with a closed walk has none.
+pub fn closed_walk_has_no_order()
+    ensures { ClosedWalkHasNoOrder }
+{}
+
+/// Without a closed walk, live nodes are those from which the output is reached over at most as many connections as
+/// there are nodes.
+pub fn live_is_listed()
+    ensures { LiveIsListed }
+{}
