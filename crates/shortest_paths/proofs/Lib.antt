@@ -1,0 +1,9 @@
+pub mod WalkLemmas
+pub mod StepLemmas
+pub mod EndLemmas
+pub mod Pigeonhole
+pub mod TreeLemmas
+pub mod FinalLemmas
+pub mod RoundLemmas
+pub mod ReadLemmas
+pub mod Examples
