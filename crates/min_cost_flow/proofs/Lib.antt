@@ -1,0 +1,7 @@
+pub mod UnitLemmas
+pub mod SendLemmas
+pub mod ResidualLemmas
+pub mod TightLemmas
+pub mod SolveLemmas
+pub mod NetworkLemmas
+pub mod Examples

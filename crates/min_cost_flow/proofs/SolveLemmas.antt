@@ -1,0 +1,235 @@
+-- The beginning, one turn and the end of the solver's loop.
+use Rattle.std.proofs.Common.{◌≡◌, ◌≢◌, ℕ, zero, suc, ◌+◌, ◌*◌, ◌<◌, ◌≤◌, ◌^◌, ℤ, pos, negsuc, ◌+ℤ◌, ◌-ℤ◌, neg_ℤ, ◌≤ℤ◌, ◌<ℤ◌, List, [], ◌∷◌, ◌++◌, length, set, map, replicate, Some, inl, inr, refl, sym, ap, subst, ◌∙◌, arith, slice_get, slice_index, cond, nat_eq, Bool, true, false, get_or-set_same, get_or-set_other, length-set, take, drop}
+use Rattle.std.proofs.Math.Seq.{take-append_seam}
+use Rattle.std.specs.List.{Contains, All}
+use Rattle.std.proofs.lemmas.Int.{ints}
+use Rattle.std.proofs.lemmas.Bool.{cases_eq}
+use Rattle.std.proofs.lemmas.Bool.Decides.{nat_tests}
+use Rattle.std.proofs.lemmas.List.{length-replicate}
+use Rattle.std.proofs.lemmas.List.Sums.{sum_by-set, sum_by-cons}
+use Rattle.std.proofs.lemmas.List.Elements.{All-head, All-tail}
+use Rattle.std.proofs.lemmas.Option.{slice_get-get_or}
+use Rattle.min_cost_flow.specs.declared.network.Arc.{Arc}
+use Rattle.min_cost_flow.specs.declared.network.Step.{Step}
+use Rattle.min_cost_flow.specs.declared.network.Network.{Network}
+use Rattle.min_cost_flow.specs.Flow.{IsNetwork, IsTight, MeetsNeeds, HasNoPositiveCycle, length_of, units_where, total_of}
+use Rattle.min_cost_flow.specs.Residual.{forward, IsMove, more, fewer, net_of, one_at, HasNoNegativeResidualCycle}
+use Rattle.min_cost_flow.specs.Solve.{IsMeeting, wanted, from_zero}
+use Rattle.shortest_paths.specs.declared.edges.Edge.{Edge}
+use Rattle.shortest_paths.specs.Walks.{IsWalk, IsWithin, number_of, cost_of}
+
+-- ---- the empty flow
+
+no_units : (test : Arc → Bool) (arcs : List Arc) (n : ℕ) → units_where test arcs (replicate n 0) ≡ 0
+no_units test [] n = refl
+no_units test (a ∷ arcs) zero = refl
+no_units test (a ∷ arcs) (suc n) = let ih = no_units test arcs n in by (test a) ih
+  where
+    by : (b : Bool) → units_where test arcs (replicate n 0) ≡ 0 → cond b 0 0 + units_where test arcs (replicate n 0) ≡ 0
+    by true h = omega arith
+    by false h = omega arith
+
+index_of_zeros : (n k : ℕ) → slice_index (replicate n 0) k ≡ 0
+index_of_zeros zero k = refl
+index_of_zeros (suc n) zero = refl
+index_of_zeros (suc n) (suc k) = index_of_zeros n k
+
+-- a walk over residual edges, none of which goes back, is one over the arcs, with each cost turned
+turned : Edge → Edge
+turned e = record { tail = e.tail; head = e.head; cost = neg_ℤ e.cost }
+
+pub no_units_no_cycle : (arcs : List Arc) (flow : List ℕ) → ((k : ℕ) → slice_index flow k ≡ 0) → HasNoPositiveCycle arcs → HasNoNegativeResidualCycle arcs flow
+unfolding turned
+no_units_no_cycle arcs flow none cycles edges steps r v walk w = let t = turn walk v v w in let q = cycles v t.0 t.1 in let same = t.2 in omega (arith, ints)
+  where
+    in_map : (xs : List Arc) (k : ℕ) (a : Arc) → slice_get xs k ≡ Some a → Contains (map length_of xs) (length_of a)
+    in_map [] k a h = absurd (cc)
+    in_map (b ∷ xs) zero a h = (0, omega arith, let same : b ≡ a = cc in ap length_of same)
+    in_map (b ∷ xs) (suc k) a h = let t = in_map xs k a h in let l = t.1 in (suc t.0, omega arith, t.2)
+
+    arc_of : (e : Edge) → Contains edges e → (a : Arc) × Contains (map length_of arcs) (length_of a) × (e ≡ forward a)
+    arc_of e has =
+        let at = slice_get-get_or edges has.0 e has.1 ∙ ap Some has.2 in
+        let m = r.moves has.0 e at in
+        by e m.0 m.2
+      where
+        by : (d : Edge) (s : Step) → IsMove arcs flow d s → (a : Arc) × Contains (map length_of arcs) (length_of a) × (d ≡ forward a)
+        by d s (more j a h) = (a, in_map arcs j a h, refl)
+        by d s (fewer j a h some) = absurd (let q = none j in omega arith)
+
+    turn : (walk : List Edge) (u v : ℕ) → IsWalk edges u walk v → (t : List Edge) × IsWalk (map length_of arcs) u t v × (cost_of t ≡ neg_ℤ (cost_of walk))
+    turn [] u v h = ([], h, refl)
+    turn (e ∷ walk) u v h =
+        let rest = turn walk e.head v h.2 in
+        let a = arc_of e h.0 in
+        let tail = ap (λ (x : Edge). x.tail) a.2 in
+        let head = ap (λ (x : Edge). x.head) a.2 in
+        let cost = ap (λ (x : Edge). x.cost) a.2 in
+        let sum = rest.2 in
+        (length_of a.0 ∷ rest.0, (a.1, sym tail ∙ h.1, subst (λ x. IsWalk (map length_of arcs) x rest.0 v) head rest.1), omega (arith, ints))
+
+wanted_within : (need : List ℤ) → All (IsWithin (2 ^ 14)) need → wanted need ≤ 2 ^ 14 * length need
+wanted_within [] h = omega arith
+wanted_within (x ∷ need) h =
+    let ih = wanted_within need (All-tail (IsWithin (2 ^ 14)) x need h) in
+    let one = All-head (IsWithin (2 ^ 14)) x need h in
+    let here = by x one.1 in
+    omega (arith, sum_by-cons from_zero x need)
+  where
+    by : (z : ℤ) → z ≤ℤ pos (2 ^ 14) → from_zero z ≤ 2 ^ 14
+    by (pos n) l = omega (arith, ints)
+    by (negsuc n) l = omega arith
+
+pub IsMeeting-first : (net : Network) (flow : List ℕ) (n : ℕ) → IsNetwork net → n ≡ length net.arcs → flow ≡ replicate n 0 → IsMeeting net flow net.need
+IsMeeting-first net flow n network len is = record {
+  units_each = subst (λ x. length x ≡ length net.arcs) (sym is) (length-replicate n 0 ∙ len);
+  unmet_each = network.one_need_each;
+  unmet_is = λ v l. subst (λ x. net_of net.arcs x v +ℤ number_of net.need v ≡ number_of net.need v) (sym is)
+      (let ins = no_units (λ a. nat_eq a.head v) net.arcs n in let outs = no_units (λ a. nat_eq a.tail v) net.arcs n in omega (arith, ints));
+  balanced = network.balanced;
+  cycles = no_units_no_cycle net.arcs flow none network.no_positive_cycle;
+  room = λ k. let z = none k in let w = wanted_within net.need network.needs in let m = network.one_need_each in let few = network.few_points in omega arith;
+}
+  where
+    none : (k : ℕ) → slice_index flow k ≡ 0
+    none k = subst (λ x. slice_index x k ≡ 0) (sym is) (index_of_zeros n k)
+
+-- ---- one unit
+
+total_of-set : (xs : List ℤ) (i : ℕ) (y : ℤ) → i < length xs → total_of (set xs i y) +ℤ number_of xs i ≡ total_of xs +ℤ y
+total_of-set [] i y l = absurd (omega arith)
+total_of-set (x ∷ xs) zero y l = omega (arith, ints)
+total_of-set (x ∷ xs) (suc i) y l = let ih = total_of-set xs i y (omega arith) in omega (arith, ints)
+
+one_at-same : (v : ℕ) → one_at v v ≡ 1
+one_at-same v = grind (arith, nat_tests)
+
+one_at-other : (w v : ℕ) → v ≢ w → one_at w v ≡ 0
+one_at-other w v ne = grind (arith, nat_tests)
+
+-- a number with one more at `from` and one less at `to`
+moved : (unmet : List ℤ) (from to : ℕ) → from < length unmet → to < length unmet → to ≢ from → (v : ℕ) →
+    number_of (set (set unmet from (number_of unmet from +ℤ pos 1)) to (number_of unmet to -ℤ pos 1)) v +ℤ pos (one_at to v) ≡ number_of unmet v +ℤ pos (one_at from v)
+moved unmet from to lf lt ne v =
+    elim (cases_eq v to) [
+      | inl at_to ↦
+          let a = subst (λ x. number_of (set (set unmet from (number_of unmet from +ℤ pos 1)) to (number_of unmet to -ℤ pos 1)) x ≡ number_of unmet to -ℤ pos 1) (sym at_to)
+          (get_or-set_same (set unmet from (number_of unmet from +ℤ pos 1)) to (number_of unmet to -ℤ pos 1) (pos 0) (let q = length-set unmet from (number_of unmet from +ℤ pos 1) in omega arith)) in
+          let b = subst (λ x. one_at to x ≡ 1) (sym at_to) (one_at-same to) in
+          let c = one_at-other from v (λ e. ne (sym at_to ∙ e)) in
+          let d = ap (number_of unmet) at_to in
+          omega (arith, ints)
+      | inr not_to ↦
+          let a = get_or-set_other (set unmet from (number_of unmet from +ℤ pos 1)) to v (number_of unmet to -ℤ pos 1) (pos 0) not_to in
+          let b = one_at-other to v not_to in
+          elim (cases_eq v from) [
+            | inl at_from ↦
+                let c = subst (λ x. number_of (set unmet from (number_of unmet from +ℤ pos 1)) x ≡ number_of unmet from +ℤ pos 1) (sym at_from) (get_or-set_same unmet from (number_of unmet from +ℤ pos 1) (pos 0) lf) in
+                let d = subst (λ x. one_at from x ≡ 1) (sym at_from) (one_at-same from) in
+                let e = ap (number_of unmet) at_from in
+                omega (arith, ints)
+            | inr not_from ↦
+                let c = get_or-set_other unmet from v (number_of unmet from +ℤ pos 1) (pos 0) not_from in
+                let d = one_at-other from v not_from in
+                omega (arith, ints)
+          ]
+    ]
+
+from_zero-more : (z : ℤ) → z <ℤ pos 0 → from_zero (z +ℤ pos 1) ≡ from_zero z
+from_zero-more (pos n) h = absurd (omega (arith, ints))
+from_zero-more (negsuc zero) h = refl
+from_zero-more (negsuc (suc n)) h = by (negsuc (suc n) +ℤ pos 1) (omega (arith, ints))
+  where
+    by : (y : ℤ) → y <ℤ pos 0 → from_zero y ≡ 0
+    by (pos m) l = absurd (omega (arith, ints))
+    by (negsuc m) l = refl
+
+from_zero-less : (z : ℤ) → pos 0 <ℤ z → from_zero (z -ℤ pos 1) + 1 ≡ from_zero z
+from_zero-less (pos n) h = by (pos n -ℤ pos 1) (omega (arith, ints)) (omega (arith, ints))
+  where
+    by : (y : ℤ) → pos 0 ≤ℤ y → y +ℤ pos 1 ≡ pos n → from_zero y + 1 ≡ n
+    by (pos m) l e = omega (arith, ints)
+    by (negsuc m) l e = absurd (omega (arith, ints))
+from_zero-less (negsuc n) h = absurd (omega (arith, ints))
+
+module _ (net : Network) (flow : List ℕ) (unmet : List ℤ) (from to : ℕ) (m : IsMeeting net flow unmet)
+    (from_in : from < length unmet) (to_in : to < length unmet) (below : number_of unmet from <ℤ pos 0) (above : pos 0 <ℤ number_of unmet to) where
+  differ' : to ≢ from
+  differ' e = let q = ap (number_of unmet) e in omega (arith, ints)
+
+  unmet' : List ℤ
+  unmet' = set (set unmet from (number_of unmet from +ℤ pos 1)) to (number_of unmet to -ℤ pos 1)
+
+  at_to' : number_of (set unmet from (number_of unmet from +ℤ pos 1)) to ≡ number_of unmet to
+  at_to' = get_or-set_other unmet from to (number_of unmet from +ℤ pos 1) (pos 0) differ'
+
+  pub wanted_falls : wanted (set (set unmet from (number_of unmet from +ℤ pos 1)) to (number_of unmet to -ℤ pos 1)) + 1 ≡ wanted unmet
+  wanted_falls =
+      let first = sum_by-set from_zero unmet from (number_of unmet from +ℤ pos 1) (pos 0) from_in in
+      let len = length-set unmet from (number_of unmet from +ℤ pos 1) in
+      let second = sum_by-set from_zero (set unmet from (number_of unmet from +ℤ pos 1)) to (number_of unmet to -ℤ pos 1) (pos 0) (omega arith) in
+      let same = ap from_zero at_to' in
+      let a = from_zero-more (number_of unmet from) below in
+      let b = from_zero-less (number_of unmet to) above in
+      omega arith
+
+  pub IsMeeting-next : (new : List ℕ) → IsNetwork net → length new ≡ length flow →
+      ((v : ℕ) → net_of net.arcs new v +ℤ pos (one_at from v) ≡ net_of net.arcs flow v +ℤ pos (one_at to v)) →
+      HasNoNegativeResidualCycle net.arcs new → ((k : ℕ) → slice_index new k ≤ slice_index flow k + net.points) →
+      IsMeeting net new (set (set unmet from (number_of unmet from +ℤ pos 1)) to (number_of unmet to -ℤ pos 1))
+  IsMeeting-next new network len sent cycles bound = record {
+    units_each = len ∙ m.units_each;
+    unmet_each = length-set (set unmet from (number_of unmet from +ℤ pos 1)) to _ ∙ length-set unmet from _ ∙ m.unmet_each;
+    unmet_is = λ v l. let a = sent v in let b = moved unmet from to from_in to_in differ' v in let c = m.unmet_is v l in omega (arith, ints);
+    balanced =
+        let a = total_of-set unmet from (number_of unmet from +ℤ pos 1) from_in in
+        let len' = length-set unmet from (number_of unmet from +ℤ pos 1) in
+        let b = total_of-set (set unmet from (number_of unmet from +ℤ pos 1)) to (number_of unmet to -ℤ pos 1) (omega arith) in
+        let c = m.balanced in
+        let d = at_to' in
+        omega (arith, ints);
+    cycles = cycles;
+    room = λ k. let a = bound k in let b = m.room k in let c = wanted_falls in let d = network.few_points in omega arith;
+  }
+
+-- ---- the end
+
+total_up : (ys : List ℤ) → All (λ y. pos 0 ≤ℤ y) ys → pos 0 ≤ℤ total_of ys
+total_up [] g = omega (arith, ints)
+total_up (y ∷ ys) g = let a = All-head (λ y. pos 0 ≤ℤ y) y ys g in let b = total_up ys (All-tail (λ y. pos 0 ≤ℤ y) y ys g) in omega (arith, ints)
+
+total_down : (ys : List ℤ) → All (λ y. y ≤ℤ pos 0) ys → total_of ys ≤ℤ pos 0
+total_down [] g = omega (arith, ints)
+total_down (y ∷ ys) g = let a = All-head (λ y. y ≤ℤ pos 0) y ys g in let b = total_down ys (All-tail (λ y. y ≤ℤ pos 0) y ys g) in omega (arith, ints)
+
+pub none_above : (xs : List ℤ) → All (λ x. pos 0 ≤ℤ x) xs → total_of xs ≤ℤ pos 0 → (v : ℕ) → number_of xs v ≡ pos 0
+none_above [] h t v = refl
+none_above (x ∷ xs) h t zero =
+    let a = All-head (λ y. pos 0 ≤ℤ y) x xs h in let b = total_up xs (All-tail (λ y. pos 0 ≤ℤ y) x xs h) in omega (arith, ints)
+none_above (x ∷ xs) h t (suc v) =
+    let a = All-head (λ y. pos 0 ≤ℤ y) x xs h in none_above xs (All-tail (λ y. pos 0 ≤ℤ y) x xs h) (omega (arith, ints)) v
+
+pub none_below : (xs : List ℤ) → All (λ x. x ≤ℤ pos 0) xs → pos 0 ≤ℤ total_of xs → (v : ℕ) → number_of xs v ≡ pos 0
+none_below [] h t v = refl
+none_below (x ∷ xs) h t zero =
+    let a = All-head (λ y. y ≤ℤ pos 0) x xs h in let b = total_down xs (All-tail (λ y. y ≤ℤ pos 0) x xs h) in omega (arith, ints)
+none_below (x ∷ xs) h t (suc v) =
+    let a = All-head (λ y. y ≤ℤ pos 0) x xs h in none_below xs (All-tail (λ y. y ≤ℤ pos 0) x xs h) (omega (arith, ints)) v
+
+pub MeetsNeeds-from_zeros : (net : Network) (flow : List ℕ) (unmet : List ℤ) → IsMeeting net flow unmet → ((v : ℕ) → number_of unmet v ≡ pos 0) → MeetsNeeds net.points net.arcs net.need flow
+MeetsNeeds-from_zeros net flow unmet m zeros v l = let a = m.unmet_is v l in let b = zeros v in omega (arith, ints)
+
+-- a list that was lent and written over, of the length that it had
+pub written_back : {X : Type 0} (n : ℕ) (new old : List X) → length new ≡ n → take n (new ++ drop (length new) old) ≡ new
+written_back n new old e = subst (λ k. take k (new ++ drop (length new) old) ≡ new) e (take-append_seam new (drop (length new) old))
+
+pub number_of-map_neg : (xs : List ℤ) (v : ℕ) → number_of (map neg_ℤ xs) v ≡ neg_ℤ (number_of xs v)
+number_of-map_neg [] v = refl
+number_of-map_neg (x ∷ xs) zero = refl
+number_of-map_neg (x ∷ xs) (suc v) = number_of-map_neg xs v
+
+pub IsTight-same : (arcs : List Arc) (flow : List ℕ) (p q : ℕ → ℤ) → ((v : ℕ) → q v ≡ p v) → IsTight arcs flow p → IsTight arcs flow q
+IsTight-same arcs flow p q same t = record {
+  rises = λ k a h. let r = t.rises k a h in let x = same a.head in let y = same a.tail in omega (arith, ints);
+  no_more = λ k a h some. let r = t.no_more k a h some in let x = same a.head in let y = same a.tail in omega (arith, ints);
+}

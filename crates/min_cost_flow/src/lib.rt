@@ -1,0 +1,20 @@
+//! Minimum-cost flow in a network whose arcs have no capacity, and the least potentials that certify it.
+//!
+//! [`solve`] sends one unit at a time along a cheapest walk of the residual network, as the successive shortest path
+//! algorithm does (Ahuja, Magnanti and Orlin, Network Flows, section 9.7), until the need of each point is met.
+//! A last search from point 0, the root, gives the potentials.
+//!
+//! It promises that the flow meets the needs, that flow and potentials satisfy complementary slackness (each arc keeps
+//! its least difference of potentials, with equality where it carries units), and that the potentials are the least
+//! ones, at each point, among all that satisfy it with this flow and are 0 at the root. It fails only for want of memory.
+//! It stands on `shortest_paths` for the cheapest walks, and on `graph_model` for lists.
+#![tactic(auto)]
+
+mod network;
+mod residual;
+mod search;
+mod send;
+mod solver;
+
+pub use network::{Arc, Network, Solved};
+pub use solver::solve;

@@ -1,0 +1,169 @@
+//! The successive shortest path algorithm.
+
+ghost use Rattle.std.specs.Prelude.{◌≡◌, ℕ, ◌^◌, ◌<◌, ℤ, pos, neg_ℤ, ◌+ℤ◌, ◌-ℤ◌, slice_set, ◌≤ℤ◌, ◌<ℤ◌, List as Sequence, length, map, replicate, IfOk, MatchOption};
+ghost use Rattle.std.specs.List.{All};
+ghost use Rattle.shortest_paths.specs.Walks.{number_of, IsWithin};
+ghost use Rattle.min_cost_flow.specs.Flow.{IsNetwork, IsTight, MeetsNeeds};
+ghost use Rattle.min_cost_flow.specs.Residual.{HasNoNegativeResidualCycle};
+
+use crate::network::{Network, Solved};
+use crate::search::walks_from;
+use crate::send::send;
+use graph_model::List;
+use std::alloc::{AllocError, Global};
+
+/// A flow that meets the needs of a network at least cost, and the least potentials that certify it.
+///
+/// There are 1 to 2^14 points, with the root at point 0, and at most 2^16 arcs between them, each with a least difference
+/// of at most 2^30 in size. Each point has one need, of at most 2^14 units in size, and the needs sum to 0. Some walk
+/// over the arcs leads from each point to each other, and no cycle has least differences that sum to more than 0.
+///
+/// At each point the units in minus the units out are its need. Flow and potentials satisfy complementary slackness: along
+/// each arc the potential rises by at least the least difference, and by no more where the arc carries units. The
+/// potential of the root is 0. Any other potentials that are 0 at the root and satisfy the same with this flow are at no
+/// point below these. The call fails only for want of memory.
+pub fn solve(alloc: Global, net: &Network) -> Result<Solved, AllocError>
+    requires { IsNetwork net.now }
+
+    ensures sizes { IfOk result (λ s. (length s.flow ≡ length net.now.arcs) × (length s.potential ≡ net.now.points)) }
+    ensures meets { IfOk result (λ s. MeetsNeeds net.now.points net.now.arcs net.now.need s.flow) }
+    ensures tight { IfOk result (λ s. IsTight net.now.arcs s.flow (number_of s.potential)) }
+    ensures root { IfOk result (λ s. number_of s.potential 0 ≡ pos 0) }
+    ensures least { IfOk result (λ s. (q : Sequence ℤ) → number_of q 0 ≡ pos 0 → IsTight net.now.arcs s.flow (number_of q) → (v : ℕ) → v < net.now.points → number_of s.potential v ≤ℤ number_of q v) }
+{
+    let flow = least_flow(alloc, net)?;
+    let walks = walks_from(alloc, net, &flow, 0)?;
+    let potential = potentials(alloc, walks.least.least.as_slice())?;
+    let flow = List::from_slice(alloc, &flow)?;
+    Ok(Solved { flow, potential })
+}
+
+// A flow that meets the needs, with no negative cycle in its residual network. It sends one unit at a time, from a point
+// of excess to a point of deficit, so each augmentation is within the unmet need of both.
+fn least_flow(alloc: Global, net: &Network) -> Result<Vec<u64>, AllocError>
+    requires network { IsNetwork net.now }
+
+    ensures units { IfOk result (λ flow. length flow.items ≡ length net.now.arcs) }
+    ensures meets { IfOk result (λ flow. MeetsNeeds net.now.points net.now.arcs net.now.need flow.items) }
+    ensures cycles { IfOk result (λ flow. HasNoNegativeResidualCycle net.now.arcs flow.items) }
+{
+    let mut flow = zeros(alloc, net.arcs.len())?;
+    let mut unmet = Vec::from_slice(alloc, net.need.as_slice())?;
+    while let (Some(from), Some(to)) = (excess_point(&unmet), deficit_point(&unmet)) {
+        send(alloc, net, &mut flow, from as u32, to as u32)?;
+        count_sent(&mut unmet, from, to);
+    }
+    Ok(flow)
+}
+
+// The flow of no units on each of `arcs` arcs.
+fn zeros(alloc: Global, arcs: usize) -> Result<Vec<u64>, AllocError>
+    ensures { IfOk result (λ v. v.items ≡ replicate arcs 0) }
+{
+    vec![in alloc; 0; arcs]
+}
+
+// A point that has units left to send out, if there is one.
+fn excess_point(unmet: &[i64]) -> Option<usize>
+    ensures { MatchOption result (All (λ x. pos 0 ≤ℤ x) unmet.now) (λ v. (v < length unmet.now) × (number_of unmet.now v <ℤ pos 0)) }
+{
+    unmet.iter().position(|x| *x < 0)
+}
+
+// A point that still lacks units, if there is one.
+fn deficit_point(unmet: &[i64]) -> Option<usize>
+    ensures { MatchOption result (All (λ x. x ≤ℤ pos 0) unmet.now) (λ v. (v < length unmet.now) × (pos 0 <ℤ number_of unmet.now v)) }
+{
+    unmet.iter().position(|x| *x > 0)
+}
+
+// Counts a unit that was sent.
+fn count_sent(unmet: &mut [i64], from: usize, to: usize)
+    requires from { from < length unmet.old }
+    requires to { to < length unmet.old }
+    requires below { number_of unmet.old from <ℤ pos 0 }
+    requires above { pos 0 <ℤ number_of unmet.old to }
+
+    ensures { unmet.new ≡ slice_set (slice_set unmet.old from (number_of unmet.old from +ℤ pos 1)) to (number_of unmet.old to -ℤ pos 1) }
+{
+    unmet[from] += 1;
+    unmet[to] -= 1;
+}
+
+// The potentials that least costs of walks give: minus the least cost of a walk to each point.
+fn potentials(alloc: Global, least: &[i64]) -> Result<List<i64>, AllocError>
+    requires { All (IsWithin (2 ^ 62)) least.now }
+
+    ensures { IfOk result (λ p. p ≡ map neg_ℤ least.now) }
+{
+    let mut potential = List::new(alloc);
+    for cost in least {
+        potential.push(-*cost)?;
+    }
+    Ok(potential)
+}
+
+#[cfg(test)]
+mod tests {
+    use super::solve;
+    use crate::network::{Arc, Network};
+    use graph_model::List;
+    use std::test::Fail;
+
+    // From `tail` to `head` with this least difference.
+    fn arc(tail: u32, head: u32, least: i64) -> Arc
+        ensures { result ≡ record { tail = tail; head = head; least = least } }
+    {
+        Arc { tail, head, least }
+    }
+
+    #[test]
+    fn a_network_of_no_differences(rt: HostRuntime) -> Result<(), Fail> {
+        let alloc = rt.alloc();
+        let arcs = [
+            arc(1, 2, 0),
+            arc(0, 1, 0),
+            arc(0, 2, 0),
+            arc(1, 0, 0),
+            arc(2, 0, 0),
+        ];
+        let need = [0, -1, 1];
+        let net = Network {
+            points: 3,
+            arcs: List::from_slice(alloc, &arcs)?,
+            need: List::from_slice(alloc, &need)?,
+        };
+        let solved = solve(alloc, &net)?;
+        assert_eq!(rt; solved.potential.as_slice(), [0, 0, 0].as_slice());
+        Ok(())
+    }
+
+    #[test]
+    fn an_insert_on_one_of_two_ways(rt: HostRuntime) -> Result<(), Fail> {
+        let alloc = rt.alloc();
+        let arcs = [
+            arc(1, 2, 0),
+            arc(1, 3, 0),
+            arc(3, 2, 5),
+            arc(0, 1, 0),
+            arc(0, 2, 0),
+            arc(0, 3, 0),
+            arc(1, 0, 0),
+            arc(2, 0, -5),
+        ];
+        let need = [0, -2, 2, 0];
+        let net = Network {
+            points: 4,
+            arcs: List::from_slice(alloc, &arcs)?,
+            need: List::from_slice(alloc, &need)?,
+        };
+        let solved = solve(alloc, &net)?;
+        assert_eq!(rt; solved.potential.as_slice(), [0, 0, 5, 0].as_slice());
+        let mut total: i128 = 0;
+        for (arc, units) in arcs.iter().zip(solved.flow.as_slice()) {
+            total = total.wrapping_add((*units as i128).wrapping_mul(arc.least as i128));
+        }
+        assert_eq!(rt; total, 10);
+        Ok(())
+    }
+}
