@@ -230,7 +230,7 @@ module _ (g : Graph) (f : IsForward g) where
   one_into v channel i j d li lj a b =
       f.single i j d li lj (same_ends v channel (get_or g.connections i d) (get_or g.connections j d) a b)
 
-  by_find : (v channel : ℕ) (o : Option Connection) → find (leads_into v channel) g.connections ≡ o
+  pub by_find : (v channel : ℕ) (o : Option Connection) → find (leads_into v channel) g.connections ≡ o
       → MatchOption o (connections_to g v channel ≡ []) (λ c. connections_to g v channel ≡ c ∷ [])
   by_find v channel o e =
       subst (λ o. MatchOption o (connections_to g v channel ≡ []) (λ c. connections_to g v channel ≡ c ∷ [])) e

@@ -4,3 +4,4 @@ pub mod Outgoing
 pub mod Pushes
 pub mod Found
 pub mod TestGraphs
+pub mod ForwardSound

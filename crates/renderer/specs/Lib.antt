@@ -1,2 +1,3 @@
 pub mod Samples
 pub mod Evaluations
+pub mod Laws

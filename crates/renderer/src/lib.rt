@@ -14,6 +14,7 @@ ghost use Rattle.graph_model.specs.Histories.{frames_of, interleaved};
 
 mod evaluation;
 mod gain;
+pub mod laws;
 mod lookup;
 #[cfg(test)]
 mod tests;
