@@ -10,7 +10,7 @@ use Rattle.graph_model.specs.declared.graph.Uid.{Uid}
 use Rattle.graph_model.specs.declared.graph.Connection.{Connection}
 use Rattle.graph_model.proofs.Examples.{joined}
 use Rattle.topology.specs.Named.{uid_at}
-use Rattle.topology.specs.Answers.{IsOrderOf, AreLive, IsReachOf, IsPrintedPath}
+use Rattle.topology.specs.Answers.{IsOrderOfNodes, AreLive, IsReachOf, IsPrintedPath}
 use Rattle.topology.proofs.NameFacts.{index_of}
 use Rattle.topology.proofs.TestGraphs.{fan_out}
 
@@ -112,7 +112,7 @@ next (suc (suc (suc zero))) l = record {
     two_later (suc (suc (suc j)), b, e) = absurd (omega arith)
 next (suc (suc (suc (suc k)))) l = absurd (omega arith)
 
-by_name : IsOrderOf fan_out (0 ∷ 2 ∷ 3 ∷ 1 ∷ [])
+by_name : IsOrderOfNodes fan_out (0 ∷ 2 ∷ 3 ∷ 1 ∷ [])
 by_name = record {
   indexes = All-from_recursion (λ k. k < 4) (0 ∷ 2 ∷ 3 ∷ 1 ∷ []) (omega arith, (omega arith, (omega arith, (omega arith, tt))));
   order = record {
@@ -122,7 +122,7 @@ by_name = record {
 }
 
 -- not by place: the output node has sources that are not taken
-not_by_place : IsOrderOf fan_out (0 ∷ 1 ∷ 2 ∷ 3 ∷ []) → ⊥
+not_by_place : IsOrderOfNodes fan_out (0 ∷ 1 ∷ 2 ∷ 3 ∷ []) → ⊥
 not_by_place is = later ((is.order.next 1 (omega arith)).ready 1 (joined 3 0 2 0) (omega arith) refl)
   where
     later : StandsBefore (1 ∷ 2 ∷ 3 ∷ 4 ∷ []) 1 3 → ⊥

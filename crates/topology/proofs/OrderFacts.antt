@@ -14,7 +14,7 @@ use Rattle.topology.specs.Named.{IsNamed, uids_of, uid_at}
 use Rattle.topology.specs.Links.{source, target, AreLinks}
 use Rattle.topology.specs.Blocks.{block_of, is_taken, AreBlocks, Blocks, IsFree}
 use Rattle.topology.specs.Taken.{AreTaken}
-use Rattle.topology.specs.Answers.{IsOrderOf}
+use Rattle.topology.specs.Answers.{IsOrderOfNodes}
 use Rattle.topology.specs.declared.links.Link.{Link}
 use Rattle.topology.proofs.NameFacts.{same_index, index_of, is_node}
 use Rattle.topology.proofs.LinkFacts.{count, connection_at, any_connection, source_is, target_is, link_of}
@@ -216,7 +216,7 @@ module _ (g : Graph) (named : IsNamed g) (ls : List Link) (links : AreLinks g ls
       (next_is x lt there.1 (λ v lv free. there.2 v (omega (arith, lv, length-map g.nodes (λ (n : Node). n.uid.0))) free))
 
   -- where each node has its flag, it is the order
-  pub order_of : ((v : ℕ) → v < length taken → is_taken taken v ≡ true) → IsOrderOf g os
+  pub order_of : ((v : ℕ) → v < length taken → is_taken taken v ≡ true) → IsOrderOfNodes g os
   order_of all = record {
     indexes = are.indexes;
     order = record {

@@ -14,7 +14,7 @@ use Rattle.graph_model.proofs.ReachLaws.{reach_is_longest, reach_after}
 use Rattle.topology.specs.Named.{IsNamed, uid_at, latencies_of}
 use Rattle.topology.specs.Links.{source, target, AreLinks}
 use Rattle.topology.specs.Reaches.{given, IsPulled, AreReaches}
-use Rattle.topology.specs.Answers.{IsOrderOf}
+use Rattle.topology.specs.Answers.{IsOrderOfNodes}
 use Rattle.topology.specs.declared.links.Link.{Link}
 use Rattle.topology.proofs.NameFacts.{same_index, index_of, is_node, name_is, latency_is, any_node}
 use Rattle.topology.proofs.LinkFacts.{joined, link_of}
@@ -98,7 +98,7 @@ pub record AreReached (g : Graph) (os : List ℕ) (k : ℕ) (at : List ℕ) : Ty
   pub done : (j : ℕ) → j < k → IsReachAt g at (get_or os j 0)
   pub small : (u : ℕ) → get_or at u 0 ≤ 512 * 2 ^ 32
 
-module _ (g : Graph) (named : IsNamed g) (ls : List Link) (links : AreLinks g ls) (os : List ℕ) (order : IsOrderOf g os)
+module _ (g : Graph) (named : IsNamed g) (ls : List Link) (links : AreLinks g ls) (os : List ℕ) (order : IsOrderOfNodes g os)
     (fits : (i : ℕ) → get_or (latencies_of g) i 0 < 2 ^ 32) where
   pub order_acyclic : IsAcyclic g
   order_acyclic = order_is_acyclic g (map (uid_at g) os) order.order

@@ -14,7 +14,7 @@ use Rattle.topology.specs.declared.cycles.Cycle.{Cycle}
 use Rattle.topology.specs.declared.reaches.Reach.{Reach}
 
 -- node indexes, whose names stand in the order of the graph
-pub record IsOrderOf (g : Graph) (os : List ℕ) : Type 0 where
+pub record IsOrderOfNodes (g : Graph) (os : List ℕ) : Type 0 where
   pub indexes : All (λ k. k < length g.nodes) os
   pub order : IsOrder g (map (uid_at g) os)
 

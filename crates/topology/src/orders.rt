@@ -5,7 +5,7 @@ ghost use Rattle.topology.specs.Named.{IsNamed};
 ghost use Rattle.topology.specs.Links.{AreLinks, AreWithin};
 ghost use Rattle.topology.specs.Blocks.{AreBlocks, IsFree, IsFirstFree, is_taken};
 ghost use Rattle.topology.specs.Taken.{AreTaken};
-ghost use Rattle.topology.specs.Answers.{IsOrderOf, IsCycleOf};
+ghost use Rattle.topology.specs.Answers.{IsOrderOfNodes, IsCycleOf};
 
 use crate::cycles::{Cycle, closed_walk};
 use crate::links::{Link, links, uids};
@@ -89,7 +89,7 @@ fn take_nodes(
 /// The order, or else a cycle.
 fn order_or_cycle(alloc: Global, graph: &Graph) -> Result<Result<List<u32>, Cycle>, AllocError>
     requires { IsNamed graph.now }
-    ensures { IfOk result (λ answer. MatchResult answer (IsOrderOf graph.now) (λ cycle. IsClosedWalk graph.now cycle.walk)) }
+    ensures { IfOk result (λ answer. MatchResult answer (IsOrderOfNodes graph.now) (λ cycle. IsClosedWalk graph.now cycle.walk)) }
 {
     let links = links(alloc, graph)?;
     let mut taken = vec![in alloc; false; graph.nodes.len()]?;
@@ -110,7 +110,7 @@ fn order_or_cycle(alloc: Global, graph: &Graph) -> Result<Result<List<u32>, Cycl
 /// A fault is a closed walk of connections, and comes exactly where the graph has one; which walk it is, is left open.
 pub fn order(alloc: Global, graph: &Graph) -> Result<List<u32>, Refused<Cycle>>
     requires { IsNamed graph.now }
-    ensures order { IfOk result (IsOrderOf graph.now) }
+    ensures order { IfOk result (IsOrderOfNodes graph.now) }
     ensures acyclic { IfOk result (λ _. IsAcyclic graph.now) }
     ensures cycle { IfErr result (IsCycleOf graph.now) }
 {

@@ -3,7 +3,7 @@ ghost use Rattle.graph_model.specs.Paths.{IsAcyclic};
 ghost use Rattle.topology.specs.Named.{IsNamed, HasOneOutput, latencies_of};
 ghost use Rattle.topology.specs.Links.{AreLinks, AreWithin};
 ghost use Rattle.topology.specs.Reaches.{IsPulled, IsFirstTight, AreReaches, IsPathBack};
-ghost use Rattle.topology.specs.Answers.{IsOrderOf, IsReachOf};
+ghost use Rattle.topology.specs.Answers.{IsOrderOfNodes, IsReachOf};
 
 use crate::cycles::reversed;
 use crate::links::{Link, links, uids};
@@ -78,7 +78,7 @@ fn reaches(
     requires named { IsNamed graph.now }
     requires links { AreLinks graph.now links.now }
     requires latencies { latencies.now ≡ latencies_of graph.now }
-    requires order { IsOrderOf graph.now order.now }
+    requires order { IsOrderOfNodes graph.now order.now }
     ensures { IfOk result (λ v. AreReaches graph.now v.items) }
 {
     let mut at: Vec<u64> = vec![in alloc; 0; graph.nodes.len()]?;
@@ -121,7 +121,7 @@ fn path_back(
 pub fn longest(alloc: Global, graph: &Graph, order: &List<u32>) -> Result<Reach, AllocError>
     requires named { IsNamed graph.now }
     requires output { HasOneOutput graph.now }
-    requires order { IsOrderOf graph.now order.now }
+    requires order { IsOrderOfNodes graph.now order.now }
     ensures { IfOk result (IsReachOf graph.now) }
 {
     let links = links(alloc, graph)?;

@@ -1,6 +1,6 @@
 ghost use Rattle.std.specs.Prelude.{◌≡◌, ◌∷◌, [], ◌++◌, IfOk};
 ghost use Rattle.topology.specs.Named.{IsNamed, HasOneOutput};
-ghost use Rattle.topology.specs.Answers.{IsOrderOf};
+ghost use Rattle.topology.specs.Answers.{IsOrderOfNodes};
 
 use crate::{Cycle, live, longest, order};
 use graph_model::{Connection, Graph, Kind, List, Node, Refused, Uid};
@@ -131,7 +131,7 @@ fn to_itself(alloc: Global) -> Result<Graph, AllocError>
 /// The order of a graph that has one.
 fn ordered(alloc: Global, graph: &Graph) -> Result<List<u32>, &'static str>
     requires { IsNamed graph.now }
-    ensures { IfOk result (IsOrderOf graph.now) }
+    ensures { IfOk result (IsOrderOfNodes graph.now) }
 {
     match order(alloc, graph) {
         Ok(order) => Ok(order),

@@ -2,13 +2,13 @@ use Rattle.std.proofs.Common.{map}
 use Rattle.graph_model.specs.Checks.{IsClosedWalk}
 use Rattle.graph_model.proofs.WalkLaws.{cyclic}
 use Rattle.topology.specs.Named.{uid_at}
-use Rattle.topology.specs.Answers.{IsOrderOf}
+use Rattle.topology.specs.Answers.{IsOrderOfNodes}
 use Rattle.topology.proofs.OrderFacts.{order_is_acyclic}
 use Rattle.topology.proofs.orders.order.Goals as goal
 
 pub returns-in-Ok-Ok-clause-acyclic : goal.returns-in-Ok-Ok-clause-acyclic
 returns-in-Ok-Ok-clause-acyclic c =
-    let is : IsOrderOf c.args.graph.now c.in-Ok-Ok.order = rw c.in-Ok-Ok.field-0-is at c.in-Ok-Ok.ensures in
+    let is : IsOrderOfNodes c.args.graph.now c.in-Ok-Ok.order = rw c.in-Ok-Ok.field-0-is at c.in-Ok-Ok.ensures in
     order_is_acyclic c.args.graph.now (map (uid_at c.args.graph.now) c.in-Ok-Ok.order) is.order
 
 pub returns-in-Ok-Err-clause-cycle : goal.returns-in-Ok-Err-clause-cycle
