@@ -12,7 +12,6 @@ use Rattle.graph_model.specs.Checks.{IsConnection, IsClosedWalk}
 use Rattle.graph_model.specs.Answers.{answer, answer_at, out_within}
 use Rattle.graph_model.specs.Bounds.{bounds, bounds_within, IsBounded}
 use Rattle.graph_model.specs.Sound.{IsSound}
-use Rattle.graph_model.specs.Forward.{IsForward}
 use Rattle.graph_model.specs.declared.member.Member.TheVariants as member
 use Rattle.graph_model.specs.declared.kind.Kind.{Kind}
 use Rattle.graph_model.specs.declared.kind.Kind.TheVariants.{Input, Output, Gain, Mixer, Fir, Biquad, Limiter, Delay, Insert}
@@ -184,13 +183,3 @@ loud_bounds = (refl, refl)
 not_loud : IsSound loud → ⊥
 unfolding loud bounds_within
 not_loud s = let b = s.headroom 5 (node 6 (Gain 1 (pos 1048576))) (omega arith) in let l : 140737488355328 ≤ 70368744177664 = b.1 0 0 (omega arith) in absurd (omega arith)
-
--- ---- forward graphs
-not_backward : IsForward circle → ⊥
-unfolding circle
-not_backward f =
-    let l : 3 < 2 = f.rises 1 (joined 4 0 3 0) (omega arith) in absurd (omega arith)
-
-not_plain : IsForward beside_insert → ⊥
-unfolding beside_insert
-not_plain f = absurd (f.plain 2 (node 3 (Insert 1 5)) (omega arith))

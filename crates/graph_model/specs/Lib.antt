@@ -13,7 +13,6 @@ pub mod Bounds
 pub mod Checks
 pub mod Sound
 pub mod Refusals
-pub mod Forward
 pub mod StreamLaws
 pub mod LimiterLaws
 pub mod QuietLaws

@@ -3,9 +3,8 @@
 //! A graph has nodes, each with one processor, and connections from an output channel of one node to an input
 //! channel of another. Samples are whole numbers. The file `specs/` says which frames a processor makes of the frames
 //! that came in (Histories, Filters, Limiters, Kinds), what a graph makes of its input where each node waits for the
-//! longest path into it (Paths, Answers), which graphs are sound (Members, Checks, Bounds, Sound) and which are read
-//! and rendered today (Forward). A discrete-time signal and its filters are written as in Oppenheim and Schafer,
-//! Discrete-Time Signal Processing.
+//! longest path into it (Paths, Answers), and which graphs are sound (Members, Checks, Bounds, Sound). A discrete-time
+//! signal and its filters are written as in Oppenheim and Schafer, Discrete-Time Signal Processing.
 //!
 //! It promises that `rs`, `clamp_to`, the look-ups and the channel counts are these definitions, that a copy is equal
 //! to what was copied, and, as laws on functions without a body (`laws`), that the definitions fit together: the

@@ -5,12 +5,12 @@ use Rattle.std.proofs.lemmas.List.{reverse-reverse}
 use Rattle.std.proofs.lemmas.List.Elements.{All-from_recursion}
 use Rattle.graph_model.specs.Graphs.{IsNode, IsJoined}
 use Rattle.graph_model.specs.Orders.{StandsBefore, HasSources, IsNext}
-use Rattle.graph_model.specs.Paths.{IsPathTo, IsPrinted, reach_within}
+use Rattle.graph_model.specs.Paths.{IsPathTo, IsPrinted, IsPrintedPath, reach_within}
 use Rattle.graph_model.specs.declared.graph.Uid.{Uid}
 use Rattle.graph_model.specs.declared.graph.Connection.{Connection}
 use Rattle.graph_model.proofs.Examples.{joined}
 use Rattle.topology.specs.Named.{uid_at}
-use Rattle.topology.specs.Answers.{IsOrderOfNodes, AreLive, IsReachOf, IsPrintedPath}
+use Rattle.topology.specs.Answers.{IsOrderOfNodes, AreLive, IsReachOf}
 use Rattle.topology.proofs.NameFacts.{index_of}
 use Rattle.topology.proofs.TestGraphs.{fan_out}
 

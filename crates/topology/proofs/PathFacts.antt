@@ -7,7 +7,7 @@ use Rattle.std.proofs.lemmas.List.Elements.{All-contains}
 use Rattle.std.proofs.lemmas.List.Sums.{sum_by-cons}
 use Rattle.std.proofs.lemmas.Bool.{cases_lt, eqb-true}
 use Rattle.graph_model.specs.Graphs.{IsNode, IsJoined, latency_at, connections_into, output_name}
-use Rattle.graph_model.specs.Paths.{IsPathTo, IsAcyclic, IsPrinted, latencies, reach, depth}
+use Rattle.graph_model.specs.Paths.{IsPathTo, IsAcyclic, IsPrinted, IsPrintedPath, latencies, reach, depth}
 use Rattle.graph_model.specs.declared.graph.Uid.{Uid}
 use Rattle.graph_model.specs.declared.graph.Node.{Node}
 use Rattle.graph_model.specs.declared.graph.Connection.{Connection}
@@ -18,7 +18,6 @@ use Rattle.graph_model.proofs.ReachLaws.{reach_is_longest, reach_after}
 use Rattle.topology.specs.Named.{IsNamed, uids_of, uid_at, latencies_of}
 use Rattle.topology.specs.Links.{source, target, AreLinks}
 use Rattle.topology.specs.Reaches.{given, IsTight, AreReaches, IsPathBack}
-use Rattle.topology.specs.Answers.{IsPrintedPath}
 use Rattle.topology.specs.declared.links.Link.{Link}
 use Rattle.topology.proofs.NameFacts.{same_index, is_node, name_is, latency_is, any_node}
 use Rattle.topology.proofs.LinkFacts.{joined, link_of}

@@ -1,11 +1,9 @@
 -- What is answered of a graph.
-use Rattle.std.specs.Prelude.{◌≡◌, ℕ, ◌<◌, ◌↔◌, IsTrue, Bool, List, ◌∷◌, length, map, reverse}
+use Rattle.std.specs.Prelude.{◌≡◌, ℕ, ◌<◌, ◌↔◌, IsTrue, Bool, List, length, map}
 use Rattle.std.specs.List.{All, AllZip}
 use Rattle.graph_model.specs.Checks.{IsClosedWalk}
-use Rattle.graph_model.specs.Graphs.{output_name}
 use Rattle.graph_model.specs.Orders.{IsOrder}
-use Rattle.graph_model.specs.Paths.{IsLive, IsAcyclic, IsPrinted, reach}
-use Rattle.graph_model.specs.declared.graph.Uid.{Uid}
+use Rattle.graph_model.specs.Paths.{IsLive, IsAcyclic, IsPrintedPath, reach}
 use Rattle.graph_model.specs.declared.graph.Graph.{Graph}
 use Rattle.graph_model.specs.declared.refused.Refused.{Refused}
 use Rattle.graph_model.specs.declared.refused.Refused.TheVariants.{Fault, Memory}
@@ -26,10 +24,6 @@ IsCycleOf g Memory = Unit {0}
 -- one answer for each node: whether it is live
 abbrev pub AreLive : Graph → List Bool → Type 0
 AreLive g marks = AllZip (λ n live. IsTrue live ↔ IsLive g n.uid.0) g.nodes marks
-
--- the printed path into the output node, from its first node on
-abbrev pub IsPrintedPath : Graph → List Uid → Type 0
-IsPrintedPath g path = (us : List ℕ) × IsPrinted g (output_name g) us × (map (λ u. u.0) path ≡ reverse (output_name g ∷ us))
 
 -- the reach of each node, and the printed path
 pub record IsReachOf (g : Graph) (r : Reach) : Type 0 where
