@@ -1,26 +1,22 @@
--- A forward graph has 1 to 32 channels at each end.
-use Rattle.std.proofs.Common.{◌≡◌, ◌≤◌, List, [], ◌∷◌, Some, None, Bool, true, false, cond, refl, sym, ap, ◌∙◌, subst}
-use Rattle.std.specs.List.{find}
-use Rattle.std.specs.Option.{is_some}
+-- A sound graph has 1 to 32 channels at each end.
+use Rattle.std.proofs.Common.{◌≡◌, ℕ, ◌≤◌, ◌<◌, length, get_or, Bool, true, false, Some, None, refl, sym, ap, ◌∙◌, subst}
+use Rattle.std.specs.List.{position}
+use Rattle.std.specs.Option.{IsSome, is_some}
 use Rattle.std.proofs.lemmas.Bool.{false≢true}
 use Rattle.graph_model.specs.Kinds.{ins_of, outs_of}
 use Rattle.graph_model.specs.Ranges.{HasRange}
-use Rattle.graph_model.specs.Graphs.{is_input, is_output, name_or_zero, or_zero, ins_at, outs_at}
-use Rattle.graph_model.specs.Forward.{IsForward}
+use Rattle.graph_model.specs.Graphs.{is_input, is_output, ins_at, output_name}
+use Rattle.graph_model.specs.Sound.{IsSound}
 use Rattle.graph_model.specs.declared.kind.Kind.{Kind}
 use Rattle.graph_model.specs.declared.kind.Kind.TheVariants.{Input, Output}
 use Rattle.graph_model.specs.declared.graph.Node.{Node}
 use Rattle.graph_model.specs.declared.graph.Graph.{Graph}
-use Rattle.renderer.proofs.ForwardLaws.{found_named, named_range, input_exists, output_exists}
+use Rattle.topology.specs.Named.{uid_at}
+use Rattle.topology.proofs.NameFacts.{any_node}
+use Rattle.topology.proofs.OutputFacts.{output_found, output_named}
+use Rattle.renderer.proofs.NodeFacts.{has_place, input_exists, input_found, ins_is, position_found, range_at}
+use Rattle.std.proofs.lemmas.List.Quantifiers.{position-Some}
 use Rattle.graph_host.specs.Outputs.{in_channels, out_channels}
-
-passes : {X : Type 0} (p : X → Bool) (xs : List X) (x : X) → find p xs ≡ Some x → p x ≡ true
-passes p [] x e = absurd (cc)
-passes p (y ∷ ys) x e =
-    elim (p y) as (λ b. p y ≡ b → cond b (Some y) (find p ys) ≡ Some x → p x ≡ true) [
-      | true ↦ λ t s. let same : y ≡ x = cc in subst (λ z. p z ≡ true) same t
-      | false ↦ λ f s. passes p ys x s
-    ] refl e
 
 input_range : (kind : Kind) → HasRange kind → is_input kind ≡ true → (1 ≤ outs_of kind) × (outs_of kind ≤ 32)
 input_range (Input n) r e = r
@@ -30,29 +26,34 @@ output_range : (kind : Kind) → HasRange kind → is_output kind ≡ true → (
 output_range (Output n) r e = r
 output_range kind r e = absurd (false≢true e)
 
-module _ (g : Graph) (f : IsForward g) where
-  found_ins : (node : Node) → find (λ n. is_input n.kind) g.nodes ≡ Some node → (1 ≤ in_channels g) × (in_channels g ≤ 32)
-  found_ins node e =
-      let named = found_named g f (λ n. is_input n.kind) node e in
-      let same : in_channels g ≡ outs_of node.kind = ap (λ o. outs_at g (name_or_zero o)) e ∙ ap (or_zero outs_of) named in
-      rw same (input_range node.kind (named_range g f node.uid.0 node named).1 (passes (λ n. is_input n.kind) g.nodes node e))
+module _ (g : Graph) (sound : IsSound g) where
+  pub input_there : IsSome (position (λ n. is_input n.kind) g.nodes)
+  input_there = has_place (λ n. is_input n.kind) g.nodes (input_exists g sound)
 
-  found_outs : (node : Node) → find (λ n. is_output n.kind) g.nodes ≡ Some node → (1 ≤ out_channels g) × (out_channels g ≤ 32)
-  found_outs node e =
-      let named = found_named g f (λ n. is_output n.kind) node e in
-      let same : out_channels g ≡ ins_of node.kind = ap (λ o. ins_at g (name_or_zero o)) e ∙ ap (or_zero ins_of) named in
-      rw same (output_range node.kind (named_range g f node.uid.0 node named).1 (passes (λ n. is_output n.kind) g.nodes node e))
+  pub output_there : IsSome (position (λ n. is_output n.kind) g.nodes)
+  output_there = ap is_some (output_found g sound.shaped.ends.1)
 
-  pub ins_in_range : (1 ≤ in_channels g) × (in_channels g ≤ 32)
-  ins_in_range =
-      elim (find (λ n. is_input n.kind) g.nodes) as (λ o. find (λ n. is_input n.kind) g.nodes ≡ o → (1 ≤ in_channels g) × (in_channels g ≤ 32)) [
-        | None ↦ λ e. absurd (false≢true (sym (ap is_some e) ∙ input_exists g f))
-        | Some n ↦ λ e. found_ins n e
-      ] refl
+  -- the node at the first place of an input node
+  pub ins_found : (k : ℕ) (d : Node) → position (λ n. is_input n.kind) g.nodes ≡ Some k
+      → (outs_of (get_or g.nodes k d).kind ≡ in_channels g) × (1 ≤ outs_of (get_or g.nodes k d).kind) × (outs_of (get_or g.nodes k d).kind ≤ 32)
+  ins_found k d e =
+      let at = position_found (λ n. is_input n.kind) g.nodes k d e in
+      let passes : is_input (get_or g.nodes k d).kind ≡ true = (position-Some (λ n. is_input n.kind) g.nodes k d e).1 in
+      let range = input_range (get_or g.nodes k d).kind (range_at g sound k d at.0).1 passes in
+      ((input_found g sound (get_or g.nodes k d) at.1).0, range.0, range.1)
 
-  pub outs_in_range : (1 ≤ out_channels g) × (out_channels g ≤ 32)
-  outs_in_range =
-      elim (find (λ n. is_output n.kind) g.nodes) as (λ o. find (λ n. is_output n.kind) g.nodes ≡ o → (1 ≤ out_channels g) × (out_channels g ≤ 32)) [
-        | None ↦ λ e. absurd (false≢true (sym (ap is_some e) ∙ output_exists g f))
-        | Some n ↦ λ e. found_outs n e
+  -- and of an output node
+  pub outs_found : (k : ℕ) (d : Node) → position (λ n. is_output n.kind) g.nodes ≡ Some k
+      → (ins_of (get_or g.nodes k d).kind ≡ out_channels g) × (1 ≤ ins_of (get_or g.nodes k d).kind) × (ins_of (get_or g.nodes k d).kind ≤ 32)
+  outs_found k d e =
+      let at = position_found (λ n. is_output n.kind) g.nodes k d e in
+      let passes : is_output (get_or g.nodes k d).kind ≡ true = (position-Some (λ n. is_output n.kind) g.nodes k d e).1 in
+      let range = output_range (get_or g.nodes k d).kind (range_at g sound k d at.0).1 passes in
+      (sym (ins_is g sound k d at.0) ∙ ap (ins_at g) (output_named g sound.shaped.ends.1 k e), range.0, range.1)
+
+  pub ins_range : (1 ≤ in_channels g) × (in_channels g ≤ 32)
+  ins_range =
+      elim (position (λ n. is_input n.kind) g.nodes) as (λ o. position (λ n. is_input n.kind) g.nodes ≡ o → (1 ≤ in_channels g) × (in_channels g ≤ 32)) [
+        | None ↦ λ e. absurd (false≢true (sym (ap is_some e) ∙ input_there))
+        | Some k ↦ λ e. let found = ins_found k any_node e in (rw (sym found.0) found.1, rw (sym found.0) found.2)
       ] refl

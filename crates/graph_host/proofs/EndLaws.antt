@@ -1,171 +1,141 @@
--- What was found and written, and that the causes of the ends exclude each other.
-use Rattle.std.proofs.Common.{◌≡◌, ℕ, ℤ, List, take, Option, Some, None, refl, sym, ap, ◌∙◌, subst, inl, inr, ◌⊎◌}
-use Rattle.std.specs.Prelude.{Result, Ok, Err, OnErr}
+-- Why the steps of a run end, and what they leave.
+use Rattle.std.proofs.Common.{◌≡◌, ℕ, ℤ, List, take, Option, Some, None, ◌+◌, ◌*◌, ◌/◌, ◌<◌, ◌≤◌, length, arith, refl, sym, ap, ◌∙◌, subst, inl, inr}
+use Rattle.std.specs.Prelude.{◌⊎◌, Result, Ok, Err}
 use Rattle.graph_model.specs.declared.graph.Graph.{Graph}
-use Rattle.graph_records.specs.Walk.{walk}
-use Rattle.gh_outside.specs.Holdings.{Holding, Holds, KeepsOthers}
-use Rattle.wav_pcm.specs.Files.{recorded}
+use Rattle.gh_outside.specs.Holdings.{Holding, Holds, HeldBytes, IsMissing, IsPast}
+use Rattle.wav_pcm.specs.Files.{ReadsAs, data_size, recorded}
 use Rattle.wav_pcm.specs.declared.head.Head.{Head}
+use Rattle.wav_pcm.specs.declared.head.WavFault.{WavFault}
+use Rattle.wav_pcm.proofs.OkLaws.{frames_are_there}
+use Rattle.std.specs.Option.{IfSome}
+use Rattle.graph_host.specs.Causes.{IsRefusal, IsGraphEnd, IsInputEnd, HasInputEnd, IsReadEnd, HasEnd, IsEndOf, IsToldEnd, IsCaused, Stops, plain}
+use Rattle.graph_host.specs.Laws.{EndIsOne}
+use Rattle.graph_host.specs.Outputs.{data_bytes, in_channels, output_of}
+use Rattle.graph_host.specs.Readings.{HoldsGraph, HoldsRecording, IsWritten, IsBegun, MayBeReady}
 use Rattle.graph_host.specs.Requests.{Request}
-use Rattle.graph_host.specs.Outputs.{rendered, output_of, head_for, IsRenderable}
-use Rattle.graph_host.specs.Readings.{HoldsGraph, IsWritten, IsBegun, IsReady, MayBeReady, LacksFile, HasNoReading, MayHaveNoReading}
+use Rattle.graph_model.specs.Sound.{IsSound}
+use Rattle.graph_host.specs.Files.{rendered}
+use Rattle.graph_host.specs.Forms.{IsFormOf}
+use Rattle.graph_host.specs.Recordings.{IsInput}
+use Rattle.graph_host.specs.declared.forms.Form.{Form}
+use Rattle.graph_host.proofs.ChannelLaws.{ins_range}
+use Rattle.graph_host.proofs.OutputLaws.{output_is, bytes_are}
+use Rattle.graph_host.specs.Steps.{FindsRecords, FindsGraph, FindsHead, FindsRecording, IsHeadEnd, IsPart, IsTooLong, Refuses}
 use Rattle.graph_host.specs.declared.ends.End.{End}
-use Rattle.graph_host.specs.declared.ends.End.TheVariants.{ReadFault, WriteFault, Memory, NotBuilt}
-use Rattle.std.specs.Option.{IsSomeAnd}
-use Rattle.graph_host.specs.Steps.{FindsGraph, FindsRecording, IsPart}
+use Rattle.graph_host.specs.declared.ends.End.TheVariants.{Done, Words, SameName, Records, Graph as Checks, NotBuilt, Wav, ReadFault, WriteFault, Memory}
 
-some_none : {X : Type 0} {x : X} → None ≡ Some x → ⊥
-some_none e = cc
+-- ---- the steps
 
-some_same : {X : Type 0} {x y : X} → Some x ≡ Some y → x ≡ y
-some_same e = cc
+-- what the checks of a graph refuse, of the graph that a name holds
+pub refused : (name : List ℕ) (g : Graph) (held : Option Holding) (reads : Type 0) (end : End) → FindsRecords name g held → Refuses g end → Stops (IsGraphEnd name held) reads end
+refused name g None reads (Checks fault) found r = inl tt
+refused name g (Some files) reads (Checks fault) found r = inl (g, found, r)
+refused name g None reads NotBuilt found r = inl tt
+refused name g (Some files) reads NotBuilt found r = inl (g, found, r.0, r.1)
+refused name g held reads Memory found r = inr (inr refl)
+refused name g held reads Done found r = absurd r
+refused name g held reads Words found r = absurd r
+refused name g held reads SameName found r = absurd r
+refused name g held reads (Records fault) found r = absurd r
+refused name g held reads (Wav fault) found r = absurd r
+refused name g held reads ReadFault found r = absurd r
+refused name g held reads WriteFault found r = absurd r
 
--- ---- what was found and written
-output_is : (g : Graph) (head : Head) (samples : List ℤ) (file : List ℕ) → head ≡ head_for g file → samples ≡ recorded head file → rendered g head.rate 16 samples ≡ output_of g file
-output_is g head samples file is said = λ i. rendered g (is i).rate 16 ((said ∙ ap (λ h. recorded h file) is) i)
+-- the end that an input has for the request's graph
+pub for_graph : (q : Request) (g : Graph) (held : Option Holding) → FindsGraph q.graph g held → (end : End) → IsInputEnd q g held end → IsReadEnd q held end
+for_graph q g None found end i = inr i
+for_graph q g (Some files) found end i = inr (g, found, i)
 
-pub written : (q : Request) (g : Graph) (head : Head) (samples : List ℤ) (bytes : List ℕ) (old new : Option Holding) → FindsGraph q.graph g old → FindsRecording q.input g head samples old
-    → bytes ≡ rendered g head.rate 16 samples → Holds q.output bytes new → IsWritten q old new
-written q g head samples bytes None new graph recording made holds = tt
-written q g head samples bytes (Some old) None graph recording made holds = tt
-written q g head samples bytes (Some old) (Some new) graph (file, at, renderable, is, said) made holds =
-    (g, file, record { graph = graph; input = at; renderable = renderable }, holds ∙ ap Some (made ∙ output_is g head samples file is said))
+-- ---- what a run leaves
+module _ (q : Request) (g : Graph) (head : Head) (samples : List ℤ) (bytes : List ℕ) (is : bytes ≡ output_of q g head samples) (short : data_bytes q g head ≤ 4294967258) where
+  pub written : (old new : Option Holding) → FindsGraph q.graph g old → FindsRecording q.input g head samples old → Holds q.output bytes new → IsWritten q old new
+  written None new graph recording holds = tt
+  written (Some old) None graph recording holds = tt
+  written (Some old) (Some new) graph recording holds = (g, head, samples, record { graph = graph; recording = recording; short = short }, holds ∙ ap Some is)
 
-pub begun : (q : Request) (g : Graph) (head : Head) (samples : List ℤ) (bytes : List ℕ) (old new : Option Holding) → FindsGraph q.graph g old → FindsRecording q.input g head samples old
-    → bytes ≡ rendered g head.rate 16 samples → IsPart q.output bytes old new → IsBegun q old new
-begun q g head samples bytes None new graph recording made part = tt
-begun q g head samples bytes (Some old) None graph recording made part = tt
-begun q g head samples bytes (Some old) (Some new) graph recording made (inl same) = inl same
-begun q g head samples bytes (Some old) (Some new) graph (file, at, renderable, is, said) made (inr (n, first)) =
-    inr (g, file, record { graph = graph; input = at; renderable = renderable }, n, first ∙ ap (λ b. Some (take n b)) (made ∙ output_is g head samples file is said))
+  pub begun : (old new : Option Holding) → FindsGraph q.graph g old → FindsRecording q.input g head samples old → IsPart q.output bytes old new → IsBegun q old new
+  begun None new graph recording part = tt
+  begun (Some old) None graph recording part = tt
+  begun (Some old) (Some new) graph recording (inl same) = inl same
+  begun (Some old) (Some new) graph recording (inr (n, first)) =
+      inr (g, head, samples, record { graph = graph; recording = recording; short = short }, (n, first ∙ ap (λ b. Some (take n b)) is))
 
--- ---- the causes
-same_graph : (name : List ℕ) (g h : Graph) (files : Holding) → HoldsGraph name g files → HoldsGraph name h files → g ≡ h
-same_graph name g h files (a, at, text) (b, be, other) =
-    let bytes : a ≡ b = some_same (sym at ∙ be) in
-    let both = sym text.0 ∙ ap walk bytes ∙ other.0 in
-    cc
+  pub ready : (held : Option Holding) → FindsGraph q.graph g held → FindsRecording q.input g head samples held → MayBeReady q held
+  ready None graph recording = tt
+  ready (Some files) graph recording = (g, head, samples, record { graph = graph; recording = recording; short = short })
 
-pub ready_lacks : (q : Request) (held : Option Holding) → IsReady q held → LacksFile q held → ⊥
-ready_lacks q None ready lacks = ready
-ready_lacks q (Some files) (g, file, job) (inl none) = some_none (sym none ∙ job.graph.1)
-ready_lacks q (Some files) (g, file, job) (inr (h, holds, none)) = some_none (sym none ∙ job.input)
+-- the same of what is rendered
+module _ (q : Request) (g : Graph) (form : Form) (samples : List ℤ) (bytes : List ℕ) (old : Option Holding) (sound : IsSound g)
+    (read : (h : Head) × IsFormOf q g h form × IsInput q.input g h form.silent samples old)
+    (few : form.frames * (form.channels * (form.bits / 8)) ≤ 4294967258) (made : bytes ≡ rendered g form samples) (graph : FindsGraph q.graph g old) where
+  bytes_is : bytes ≡ output_of q g read.0 read.2.recorded
+  bytes_is = made ∙ output_is q g read.0 form read.2.recorded samples (ins_range g sound).0 read.1 read.2.whole read.2.silent
 
-pub ready_unread : (q : Request) (held : Option Holding) → IsReady q held → HasNoReading q held → ⊥
-ready_unread q None ready unread = ready
-ready_unread q (Some files) (g, file, job) (inl (bytes, at, other)) =
-    let same : job.graph.0 ≡ bytes = some_same (sym job.graph.1 ∙ at) in
-    other g (ap walk (sym same) ∙ job.graph.2.0, job.graph.2.1)
-ready_unread q (Some files) (g, file, job) (inr (h, there, holds, at, other)) =
-    let same : g ≡ h = same_graph q.graph g h files job.graph holds in
-    let file_is : file ≡ there = some_same (sym job.input ∙ at) in
-    other (subst (λ x. IsRenderable x there) same (subst (λ f. IsRenderable g f) file_is job.renderable))
+  few_bytes : data_bytes q g read.0 ≤ 4294967258
+  few_bytes = subst (λ n. n ≤ 4294967258) (bytes_are q g read.0 form read.1) few
 
-pub lacks_unread : (q : Request) (held : Option Holding) → LacksFile q held → HasNoReading q held → ⊥
-lacks_unread q None lacks unread = lacks
-lacks_unread q (Some files) (inl none) (inl (bytes, at, other)) = some_none (sym none ∙ at)
-lacks_unread q (Some files) (inl none) (inr (h, there, holds, at, other)) = some_none (sym none ∙ holds.1)
-lacks_unread q (Some files) (inr (g, holds, none)) (inl (bytes, at, other)) =
-    let same : holds.0 ≡ bytes = some_same (sym holds.1 ∙ at) in
-    other g (ap walk (sym same) ∙ holds.2.0, holds.2.1)
-lacks_unread q (Some files) (inr (g, holds, none)) (inr (h, there, other_holds, at, other)) = some_none (sym none ∙ at)
+  pub is_written : (new : Option Holding) → Holds q.output bytes new → IsWritten q old new
+  is_written new holds = written q g read.0 read.2.recorded bytes bytes_is few_bytes old new graph read.2.found holds
 
--- ---- the end of a run that has failed
-pub of_some : {X : Type 0} (P : X → Type 0) (o : Option X) (x : X) → Some x ≡ o → IsSomeAnd o P → P x
-of_some P None x is h = absurd (some_none (sym is))
-of_some P (Some y) x is h = let same : y ≡ x = cc in subst P same h
+  pub is_begun : (new : Option Holding) → IsPart q.output bytes old new → IsBegun q old new
+  is_begun new part = begun q g read.0 read.2.recorded bytes bytes_is few_bytes old new graph read.2.found part
 
--- how a run may have failed: by which end, and why
-pub record IsFailure (q : Request) (held : Option Holding) (reads writes : Type 0) (end : End) : Type 0 where
-  pub ends : (end ≡ ReadFault) ⊎ (end ≡ WriteFault) ⊎ (end ≡ NotBuilt) ⊎ (end ≡ Memory)
-  pub read_fault : end ≡ ReadFault → LacksFile q held ⊎ reads
-  pub write_fault : end ≡ WriteFault → writes
-  pub write_ready : end ≡ WriteFault → MayBeReady q held
-  pub not_built : end ≡ NotBuilt → MayHaveNoReading q held
+  pub is_ready : MayBeReady q old
+  is_ready = ready q g read.0 read.2.recorded bytes bytes_is few_bytes old graph read.2.found
 
-told_ready : (q : Request) (held : Option Holding) → (held ≡ None → ⊥) → MayBeReady q held → IsReady q held
-told_ready q None told may = absurd (told refl)
-told_ready q (Some files) told may = may
+-- ---- the input
+there_is : (o : Option (List ℕ)) (P : List ℕ → Type 0) → (o ≡ None → ⊥) → IfSome o P → (bytes : List ℕ) × (o ≡ Some bytes) × P bytes
+there_is None P there told = absurd (there refl)
+there_is (Some bytes) P there told = (bytes, refl, told)
 
-told_unread : (q : Request) (held : Option Holding) → (held ≡ None → ⊥) → MayHaveNoReading q held → HasNoReading q held
-told_unread q None told may = absurd (told refl)
-told_unread q (Some files) told may = may
+-- a file that is refused
+pub head_refused : (name : List ℕ) (g : Graph) (held : Option Holding) (reads : Type 0) (fault : WavFault) → (IsMissing name held → ⊥)
+    → HeldBytes name held (λ bytes. ReadsAs (in_channels g) bytes (Err fault)) → Stops (IsHeadEnd name g held) reads (Wav fault)
+head_refused name g None reads fault there told = inl tt
+head_refused name g (Some files) reads fault there told = inl (there_is (files name) (λ bytes. ReadsAs (in_channels g) bytes (Err fault)) there told)
 
-ready_told : (q : Request) (held : Option Holding) → IsReady q held → held ≡ None → ⊥
-ready_told q None ready e = ready
-ready_told q (Some files) ready e = some_none (sym e)
+pub head_found : (name : List ℕ) (g : Graph) (held : Option Holding) (head : Head) → (IsMissing name held → ⊥)
+    → HeldBytes name held (λ bytes. ReadsAs (in_channels g) bytes (Ok head)) → FindsHead name g head held
+head_found name g None head there told = tt
+head_found name g (Some files) head there told = there_is (files name) (λ bytes. ReadsAs (in_channels g) bytes (Ok head)) there told
 
-lacks_told : (q : Request) (held : Option Holding) → LacksFile q held → held ≡ None → ⊥
-lacks_told q None lacks e = lacks
-lacks_told q (Some files) lacks e = some_none (sym e)
+-- a file that is read has all its frames
+pub head_there : (name : List ℕ) (g : Graph) (held : Option Holding) (head : Head) → 1 ≤ in_channels g → in_channels g ≤ 32 → FindsHead name g head held
+    → IsPast name (head.from + data_size head) held → ⊥
+head_there name g None head some few found past = past
+head_there name g (Some files) head some few (bytes, at, reads) past =
+    let room = (frames_are_there (in_channels g) bytes head reads).4 in
+    let short : length bytes < head.from + data_size head = past bytes at in
+    absurd (omega arith)
 
-unread_told : (q : Request) (held : Option Holding) → HasNoReading q held → held ≡ None → ⊥
-unread_told q None unread e = unread
-unread_told q (Some files) unread e = some_none (sym e)
+pub found_more : (name : List ℕ) (g : Graph) (held : Option Holding) (head : Head) (samples : List ℤ) → FindsHead name g head held
+    → HeldBytes name held (λ file. samples ≡ recorded head file) → FindsRecording name g head samples held
+found_more name g None head samples found told = tt
+found_more name g (Some files) head samples (bytes, at, reads) told =
+    record { bytes = bytes; held = at; head_is = reads; samples_are = subst (λ (o : Option (List ℕ)). IfSome o (λ file. samples ≡ recorded head file)) at told }
 
-no_fault : {A B C : Type 0} → (A → ⊥) → (B → ⊥) → A ⊎ B → C
-no_fault a b (inl x) = absurd (a x)
-no_fault a b (inr y) = absurd (b y)
+-- the end of a file is that of the input
+pub head_ends : (q : Request) (g : Graph) (held : Option Holding) (reads : Type 0) (end : End) → Stops (IsHeadEnd q.input g held) reads end → Stops (IsInputEnd q g held) reads end
+head_ends q g held reads end (inr more) = inr more
+head_ends q g None reads end (inl is) = inl is
+head_ends q g (Some files) reads ReadFault (inl none) = inl none
+head_ends q g (Some files) reads (Wav fault) (inl (bytes, at, is)) = inl (bytes, at, inl is)
+head_ends q g (Some files) reads Done (inl r) = absurd r
+head_ends q g (Some files) reads Words (inl r) = absurd r
+head_ends q g (Some files) reads SameName (inl r) = absurd r
+head_ends q g (Some files) reads (Records fault) (inl r) = absurd r
+head_ends q g (Some files) reads (Checks fault) (inl r) = absurd r
+head_ends q g (Some files) reads NotBuilt (inl r) = absurd r
+head_ends q g (Some files) reads WriteFault (inl r) = absurd r
+head_ends q g (Some files) reads Memory (inl r) = absurd r
 
--- what is ready is done, unless there is no memory
-pub ready_fails : (q : Request) (held : Option Holding) (reads writes : Type 0) (end : End) → IsFailure q held reads writes end → IsReady q held → (reads → ⊥) → (writes → ⊥) → end ≡ Memory
-ready_fails q held reads writes end f ready no_reads no_writes =
-    elim f.ends [
-      | inl e ↦ no_fault (ready_lacks q held ready) no_reads (f.read_fault e)
-      | inr (inl e) ↦ absurd (no_writes (f.write_fault e))
-      | inr (inr (inl e)) ↦ absurd (ready_unread q held ready (told_unread q held (ready_told q held ready) (f.not_built e)))
-      | inr (inr (inr e)) ↦ e
-    ]
+pub long_ends : (q : Request) (g : Graph) (held : Option Holding) (reads : Type 0) (head : Head) (end : End) → FindsHead q.input g head held → IsTooLong q g head end
+    → Stops (IsInputEnd q g held) reads end
+long_ends q g None reads head end found (long, is) = inl (subst (λ (e : End). IsRefusal e) (sym is) tt)
+long_ends q g (Some files) reads head end (bytes, at, is_head) (long, is) =
+    inl (subst (λ (e : End). IsInputEnd q g (Some files) e) (sym is) (bytes, at, inr (head, is_head, long, refl)))
 
--- what lacks a file is a fault of reading
-pub lacking_fails : (q : Request) (held : Option Holding) (reads writes : Type 0) (end : End) → IsFailure q held reads writes end → LacksFile q held → (end ≡ ReadFault) ⊎ (end ≡ Memory)
-lacking_fails q held reads writes end f lacks =
-    elim f.ends [
-      | inl e ↦ inl e
-      | inr (inl e) ↦ absurd (ready_lacks q held (told_ready q held (lacks_told q held lacks) (f.write_ready e)) lacks)
-      | inr (inr (inl e)) ↦ absurd (lacks_unread q held lacks (told_unread q held (lacks_told q held lacks) (f.not_built e)))
-      | inr (inr (inr e)) ↦ inr e
-    ]
-
--- what has no reading is not built
-pub unread_fails : (q : Request) (held : Option Holding) (reads writes : Type 0) (end : End) → IsFailure q held reads writes end → HasNoReading q held → (reads → ⊥) → (end ≡ NotBuilt) ⊎ (end ≡ Memory)
-unread_fails q held reads writes end f unread no_reads =
-    elim f.ends [
-      | inl e ↦ no_fault (λ l. lacks_unread q held l unread) no_reads (f.read_fault e)
-      | inr (inl e) ↦ absurd (ready_unread q held (told_ready q held (unread_told q held unread) (f.write_ready e)) unread)
-      | inr (inr (inl e)) ↦ inl e
-      | inr (inr (inr e)) ↦ inr e
-    ]
-
--- what was written was ready
-pub written_unread : (q : Request) (old new : Option Holding) → (new ≡ None → old ≡ None) → IsWritten q old new → HasNoReading q old → ⊥
-written_unread q None new still done unread = unread
-written_unread q (Some old) None still done unread = some_none (sym (still refl))
-written_unread q (Some old) (Some new) still (g, file, job, holds) unread = ready_unread q (Some old) (g, file, job) unread
-
--- whether it is told stays
-pub still_told : (name : List ℕ) (old new : Option Holding) → KeepsOthers name old new → new ≡ None → old ≡ None
-still_told name None new kept e = refl
-still_told name (Some old) None kept e = absurd kept
-still_told name (Some old) (Some new) kept e = absurd (some_none (sym e))
-
-err_same : {T : Type 0} (a b c : End) → (let r : Result T End = Err a in r ≡ Err b) → (let r : Result T End = Err a in r ≡ Err c) → b ≡ c
-err_same a b c h k = cc
-
-pub failure_is : {T : Type 0} (r : Result T End) (end : End) (q : Request) (held : Option Holding) (reads writes : Type 0) → r ≡ Err end
-    → OnErr r ((r ≡ Err ReadFault) ⊎ (r ≡ Err WriteFault) ⊎ (r ≡ Err NotBuilt) ⊎ (r ≡ Err Memory))
-    → (r ≡ Err ReadFault → LacksFile q held ⊎ reads) → (r ≡ Err WriteFault → writes) → (r ≡ Err WriteFault → MayBeReady q held) → (r ≡ Err NotBuilt → MayHaveNoReading q held)
-    → IsFailure q held reads writes end
-failure_is (Ok x) end q held reads writes is ends read write ready unread = absurd (cc)
-failure_is {T = T} (Err e) end q held reads writes is ends read write ready unread = record {
-  ends = elim ends [
-    | inl a ↦ inl (err_same {T = T} e end ReadFault is a)
-    | inr (inl a) ↦ inr (inl (err_same {T = T} e end WriteFault is a))
-    | inr (inr (inl a)) ↦ inr (inr (inl (err_same {T = T} e end NotBuilt is a)))
-    | inr (inr (inr a)) ↦ inr (inr (inr (err_same {T = T} e end Memory is a)))
-  ];
-  read_fault = λ a. read (is ∙ ap Err a);
-  write_fault = λ a. write (is ∙ ap Err a);
-  write_ready = λ a. ready (is ∙ ap Err a);
-  not_built = λ a. unread (is ∙ ap Err a);
-}
+pub reading_ends : (q : Request) (g : Graph) (held : Option Holding) (later reads : Type 0) (end : End) → (later → reads) → Stops (λ e. ⊥) later end → Stops (IsInputEnd q g held) reads end
+reading_ends q g held later reads end since (inl r) = absurd r
+reading_ends q g held later reads end since (inr (inl r)) = inr (inl (r.0, since r.1))
+reading_ends q g held later reads end since (inr (inr m)) = inr (inr m)

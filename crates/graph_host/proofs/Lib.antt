@@ -1,5 +1,6 @@
-pub mod ChannelLaws
-pub mod ReadingLaws
-pub mod OutputLaws
-pub mod PartLaws
-pub mod EndLaws
+mod Numerals
+mod ChannelLaws
+mod PartLaws
+mod OutputLaws
+mod EndLaws
+mod EndOnce

@@ -1,22 +1,23 @@
--- How long the answer of a forward graph is, and the file that it makes.
-use Rattle.std.proofs.Common.{◌≡◌, ℕ, ℤ, ◌+◌, ◌*◌, ◌/◌, ◌<◌, ◌≤◌, ◌^◌, ◌%◌, List, ◌++◌, length, sym, ap, ◌∙◌, subst, arith}
-use Rattle.std.proofs.Math.Nat.{mul-mod_left, mul-le-mul_left, mul_assoc}
+-- How long the answer of a graph is, and the file that it makes.
+use Rattle.std.proofs.Common.{◌≡◌, ℕ, zero, suc, ℤ, pos, ◌+◌, ◌*◌, ◌/◌, ◌<◌, ◌≤◌, ◌^◌, ◌%◌, List, ◌++◌, length, replicate, refl, sym, ap, ◌∙◌, arith, inl, inr}
+use Rattle.std.proofs.Math.Nat.{mul-mod_left, mul-le-mul_left, mul-le-mul_right, mul_assoc}
 use Rattle.graph_model.specs.Histories.{History, frames_of, interleaved, silence, history_of}
 use Rattle.graph_model.specs.Graphs.{output_name}
-use Rattle.graph_model.specs.Paths.{reach, latency_of_graph}
+use Rattle.graph_model.specs.Paths.{reach}
 use Rattle.graph_model.specs.Answers.{answer, outgoing, sum_into}
-use Rattle.graph_model.specs.Forward.{IsForward}
 use Rattle.graph_model.specs.declared.graph.Graph.{Graph}
 use Rattle.graph_model.proofs.HistoryLaws.{length-history_of}
-use Rattle.renderer.proofs.ForwardLaws.{reach_plain}
-use Rattle.graph_model.proofs.BlockLaws.{length-frames_of}
+use Rattle.graph_model.proofs.BlockLaws.{length-frames_of, frames_of-append, interleaved_are_frames}
 use Rattle.renderer.proofs.Interleaving.{wide-history_of, length-interleaved}
-use Rattle.wav_pcm.specs.Heads.{head_of}
-use Rattle.wav_pcm.specs.Samples.{bytes_of}
+use Rattle.std.proofs.lemmas.List.{get_or-replicate, length-replicate, replicate-append-replicate}
+use Rattle.wav_pcm.specs.Heads.{head_of, wave_file_of}
 use Rattle.wav_pcm.specs.declared.head.Head.{Head}
-use Rattle.wav_pcm.proofs.FileLaws.{wave_file-16}
-use Rattle.graph_host.specs.Outputs.{in_channels, out_channels, answered, rendered, data_bytes}
-use Rattle.graph_host.proofs.ChannelLaws.{ins_in_range, outs_in_range}
+use Rattle.wav_pcm.specs.Samples.{bytes_of, IsSize}
+use Rattle.graph_host.specs.Outputs.{in_channels, out_channels, answered, data_bytes, output_of, silent_frames}
+use Rattle.graph_host.specs.Files.{rendered}
+use Rattle.graph_host.specs.Forms.{IsForm, IsFormOf}
+use Rattle.graph_host.specs.Requests.{Request}
+use Rattle.graph_host.specs.declared.forms.Form.{Form}
 
 -- the answer is as long as the input, on the channels of the output node
 pub length-answer : (g : Graph) (h : History) → length (interleaved (answer g h)) ≡ length h * out_channels g
@@ -25,48 +26,87 @@ length-answer g h =
     length-interleaved (out_channels g) (history_of (length h) (out_channels g) into) (wide-history_of (length h) (out_channels g) into)
     ∙ ap (λ n. n * out_channels g) (length-history_of (length h) (out_channels g) into)
 
-module _ (g : Graph) (f : IsForward g) where
-  -- a forward graph has no latency
-  pub no_latency : latency_of_graph g ≡ 0
-  no_latency = reach_plain g f (output_name g)
+-- samples of whole frames
+pub whole_frames : (g : Graph) (frames : ℕ) (samples : List ℤ) → length samples ≡ frames * in_channels g → length samples % in_channels g ≡ 0
+whole_frames g frames samples whole = ap (λ n. n % in_channels g) whole ∙ mul-mod_left frames (in_channels g)
 
-  pub answered-plain : (samples : List ℤ) → answered g samples ≡ interleaved (answer g (frames_of (in_channels g) samples))
-  answered-plain samples = ap (λ k. interleaved (answer g (silence k (in_channels g) ++ frames_of (in_channels g) samples))) no_latency
+-- a sample has bytes
+pub some_bytes : (bits : ℕ) → IsSize bits → 1 ≤ bits / 8
+some_bytes bits size = elim size [
+    | inl e ↦ rw e (omega arith)
+    | inr (inl e) ↦ rw e (omega arith)
+    | inr (inr (inl e)) ↦ rw e (omega arith)
+    | inr (inr (inr e)) ↦ rw e (omega arith)
+  ]
 
-  pub length-answered : (frames : ℕ) (samples : List ℤ) → length samples ≡ frames * in_channels g → length (answered g samples) ≡ frames * out_channels g
-  length-answered frames samples whole =
-      ap length (answered-plain samples) ∙ length-answer g (frames_of (in_channels g) samples)
-      ∙ ap (λ n. n * out_channels g) (length-frames_of (in_channels g) frames samples (let i = (ins_in_range g f).0 in omega arith) whole)
+-- no more frames than bytes
+pub few_frames : (form : Form) → IsForm form → form.frames * (form.channels * (form.bits / 8)) ≤ 4294967258 → form.frames ≤ 4294967258
+few_frames form good short =
+    let one = some_bytes form.bits good.size in
+    let each : 1 * (form.bits / 8) ≤ form.channels * (form.bits / 8) = mul-le-mul_right (form.bits / 8) good.channels_least in
+    let more : form.frames * 1 ≤ form.frames * (form.channels * (form.bits / 8)) = mul-le-mul_left form.frames (omega arith) in
+    omega arith
 
-  pub data_bytes-plain : (head : Head) → data_bytes g head ≡ head.frames * (out_channels g * (head.bits / 8))
-  data_bytes-plain head = ap (λ k. (head.frames + k) * (out_channels g * (head.bits / 8))) no_latency ∙ ap (λ n. n * (out_channels g * (head.bits / 8))) (plus-none head.frames)
-    where
-      plus-none : (n : ℕ) → n + 0 ≡ n
-      plus-none n = omega arith
+pub few_samples : (g : Graph) (form : Form) (samples : List ℤ) → IsForm form → in_channels g ≤ 32 → form.frames * (form.channels * (form.bits / 8)) ≤ 4294967258
+    → length samples ≡ form.frames * in_channels g → length samples < 2 ^ 40
+few_samples g form samples good most short whole =
+    let few = few_frames form good short in
+    let at_most : form.frames * in_channels g ≤ form.frames * 32 = mul-le-mul_left form.frames most in
+    omega arith
 
-  -- samples of whole frames, and not too many for an index
-  pub whole_frames : (frames : ℕ) (samples : List ℤ) → length samples ≡ frames * in_channels g → length samples % in_channels g ≡ 0
-  whole_frames frames samples whole = ap (λ n. n % in_channels g) whole ∙ mul-mod_left frames (in_channels g)
+-- the head, the frames and the pad of an answer are the rendered file
+pub file_is : (g : Graph) (form : Form) (samples made : List ℤ) (head : List ℕ) → 1 ≤ in_channels g → form.channels ≡ out_channels g
+    → length samples ≡ form.frames * in_channels g → made ≡ interleaved (answer g (frames_of (in_channels g) samples))
+    → head ≡ head_of form.channels form.rate form.bits (form.frames * (form.channels * (form.bits / 8)))
+    → head ++ bytes_of form.bits made ++ replicate (length made * (form.bits / 8) % 2) 0 ≡ rendered g form samples
+file_is g form samples made head some channels whole is said =
+    let answered = interleaved (answer g (frames_of (in_channels g) samples)) in
+    let count : length answered ≡ form.frames * form.channels =
+        length-answer g (frames_of (in_channels g) samples)
+        ∙ ap (λ n. n * out_channels g) (length-frames_of (in_channels g) form.frames samples (omega arith) whole)
+        ∙ ap (λ n. form.frames * n) (sym channels) in
+    let bytes : form.frames * (form.channels * (form.bits / 8)) ≡ length answered * (form.bits / 8) =
+        sym (mul_assoc form.frames form.channels (form.bits / 8)) ∙ ap (λ n. n * (form.bits / 8)) (sym count) in
+    ap (λ h. h ++ bytes_of form.bits made ++ replicate (length made * (form.bits / 8) % 2) 0) said
+    ∙ ap (λ n. head_of form.channels form.rate form.bits n ++ bytes_of form.bits made ++ replicate (length made * (form.bits / 8) % 2) 0) bytes
+    ∙ ap (λ xs. head_of form.channels form.rate form.bits (length answered * (form.bits / 8)) ++ bytes_of form.bits xs ++ replicate (length xs * (form.bits / 8) % 2) 0) is
 
-  pub few_samples : (head : Head) (samples : List ℤ) → head.bits ≡ 16 → data_bytes g head ≤ 4294967258 → length samples ≡ head.frames * in_channels g → length samples < 2 ^ 40
-  few_samples head samples size short whole =
-      let o = outs_in_range g f in
-      let i = ins_in_range g f in
-      let two : head.bits / 8 ≡ 2 = ap (λ b. b / 8) size in
-      let bytes : head.frames * (out_channels g * 2) ≤ 4294967258 = subst (λ k. head.frames * (out_channels g * k) ≤ 4294967258) two (subst (λ n. n ≤ 4294967258) (data_bytes-plain head) short) in
-      let at_least : head.frames * 2 ≤ head.frames * (out_channels g * 2) = mul-le-mul_left head.frames (let l = o.0 in omega arith) in
-      let at_most : head.frames * in_channels g ≤ head.frames * 32 = mul-le-mul_left head.frames i.1 in
-      omega arith
+-- ---- silence after the samples
+interleaved-silence : (k m : ℕ) → interleaved (silence k m) ≡ replicate (k * m) (pos 0)
+interleaved-silence zero m = let none : 0 * m ≡ 0 = omega arith in ap (λ n. replicate n (pos 0)) (sym none)
+interleaved-silence (suc k) m =
+    let more : k * m + m ≡ suc k * m = omega arith in
+    ap (λ xs. xs ++ replicate m (pos 0)) (interleaved-silence k m) ∙ replicate-append-replicate (k * m) m (pos 0) ∙ ap (λ n. replicate n (pos 0)) more
 
-  -- the head and the frames of an answer are the rendered file
-  pub file_is : (rate frames : ℕ) (samples made : List ℤ) (head : List ℕ) → length samples ≡ frames * in_channels g
-      → made ≡ interleaved (answer g (frames_of (in_channels g) samples))
-      → head ≡ head_of (out_channels g) rate 16 (frames * (out_channels g * 2))
-      → head ++ bytes_of 16 made ≡ rendered g rate 16 samples
-  file_is rate frames samples made head whole is said =
-      let same : made ≡ answered g samples = is ∙ sym (answered-plain samples) in
-      let long : length (answered g samples) * 2 ≡ frames * (out_channels g * 2) = ap (λ n. n * 2) (length-answered frames samples whole) ∙ mul_assoc frames (out_channels g) 2 in
-      ap (λ h. h ++ bytes_of 16 made) said
-      ∙ ap (λ xs. head_of (out_channels g) rate 16 (frames * (out_channels g * 2)) ++ bytes_of 16 xs) same
-      ∙ ap (λ n. head_of (out_channels g) rate 16 n ++ bytes_of 16 (answered g samples)) (sym long)
-      ∙ sym (wave_file-16 (out_channels g) rate (answered g samples))
+frames_of-silence : (k m : ℕ) → 0 < m → frames_of m (replicate (k * m) (pos 0)) ≡ silence k m
+frames_of-silence k m some =
+    ap (frames_of m) (sym (interleaved-silence k m))
+    ∙ interleaved_are_frames m (silence k m) some (λ i d lt. ap length (get_or-replicate k i (replicate m (pos 0)) d (let l = length-replicate k (replicate m (pos 0)) in omega arith)) ∙ length-replicate m (pos 0))
+
+-- zeros after the samples are frames of silence after theirs
+pub with_silence : (m n k : ℕ) (samples : List ℤ) → 0 < m → length samples ≡ n * m
+    → frames_of m (samples ++ replicate (k * m) (pos 0)) ≡ silence k m ++ frames_of m samples
+with_silence m n k samples some whole =
+    frames_of-append m n k samples (replicate (k * m) (pos 0)) some whole (length-replicate (k * m) (pos 0))
+    ∙ ap (λ h. h ++ frames_of m samples) (frames_of-silence k m some)
+
+-- what is rendered of samples and silence is the request's output
+pub output_is : (q : Request) (g : Graph) (head : Head) (form : Form) (recorded samples : List ℤ) → 1 ≤ in_channels g → IsFormOf q g head form
+    → length recorded ≡ head.frames * in_channels g → samples ≡ recorded ++ replicate (form.silent * in_channels g) (pos 0)
+    → rendered g form samples ≡ output_of q g head recorded
+output_is q g head form recorded samples some of whole silent =
+    let answers : interleaved (answer g (frames_of (in_channels g) samples)) ≡ answered g (silent_frames q g) recorded =
+        ap (λ xs. interleaved (answer g (frames_of (in_channels g) xs))) silent
+        ∙ ap (λ h. interleaved (answer g h)) (with_silence (in_channels g) head.frames form.silent recorded (omega arith) whole)
+        ∙ ap (λ k. answered g k recorded) of.silent in
+    ap (λ xs. wave_file_of form.channels form.rate form.bits xs) answers
+    ∙ ap (λ n. wave_file_of n form.rate form.bits (answered g (silent_frames q g) recorded)) of.channels
+    ∙ ap (λ n. wave_file_of (out_channels g) n form.bits (answered g (silent_frames q g) recorded)) of.rate
+    ∙ ap (λ n. wave_file_of (out_channels g) head.rate n (answered g (silent_frames q g) recorded)) of.bits
+
+-- and its bytes of frames are those of the form
+pub bytes_are : (q : Request) (g : Graph) (head : Head) (form : Form) → IsFormOf q g head form → form.frames * (form.channels * (form.bits / 8)) ≡ data_bytes q g head
+bytes_are q g head form of =
+    ap (λ n. n * (form.channels * (form.bits / 8))) (of.frames ∙ ap (λ k. head.frames + k) of.silent)
+    ∙ ap (λ n. (head.frames + silent_frames q g) * (n * (form.bits / 8))) of.channels
+    ∙ ap (λ n. (head.frames + silent_frames q g) * (out_channels g * (n / 8))) of.bits

@@ -1,5 +1,11 @@
+pub mod Numbers
 pub mod Requests
 pub mod Ends
 pub mod Outputs
+pub mod Forms
 pub mod Readings
+pub mod Causes
 pub mod Steps
+pub mod Recordings
+pub mod Files
+pub mod Laws

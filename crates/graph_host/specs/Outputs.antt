@@ -1,13 +1,13 @@
--- The file that a graph and a recording give.
-use Rattle.std.specs.Prelude.{ℕ, ℤ, List, ◌+◌, ◌*◌, ◌/◌, ◌-◌, ◌^◌, ◌≤◌, ◌++◌}
+-- The file that a graph makes of a recording.
+use Rattle.std.specs.Prelude.{ℕ, ℤ, List, ◌+◌, ◌*◌, ◌/◌, ◌++◌, Option, Some, None}
 use Rattle.graph_model.specs.Histories.{frames_of, interleaved, silence}
 use Rattle.graph_model.specs.Graphs.{ins_at, outs_at, input_name, output_name}
 use Rattle.graph_model.specs.Paths.{latency_of_graph}
 use Rattle.graph_model.specs.Answers.{answer}
 use Rattle.graph_model.specs.declared.graph.Graph.{Graph}
 use Rattle.wav_pcm.specs.Heads.{wave_file_of}
-use Rattle.wav_pcm.specs.Files.{IsPlainFile, plain_head, recorded}
 use Rattle.wav_pcm.specs.declared.head.Head.{Head}
+use Rattle.graph_host.specs.Requests.{Request}
 
 -- the channels that come into the graph, and those of its answer
 abbrev pub in_channels : Graph → ℕ
@@ -16,27 +16,26 @@ in_channels g = outs_at g (input_name g)
 abbrev pub out_channels : Graph → ℕ
 out_channels g = ins_at g (output_name g)
 
--- the graph's answer to the frames of the samples and then as many frames of silence as its latency, interleaved
-abbrev pub answered : Graph → List ℤ → List ℤ
-answered g samples = interleaved (answer g (silence (latency_of_graph g) (in_channels g) ++ frames_of (in_channels g) samples))
+-- how many frames of silence come after the input: as many as the graph's latency, and the tail
+abbrev pub silent_frames : Request → Graph → ℕ
+silent_frames q g = latency_of_graph g + q.tail
 
--- the answer as a WAV file of a rate and a size of sample
-abbrev pub rendered : Graph → ℕ → ℕ → List ℤ → List ℕ
-rendered g rate bits samples = wave_file_of (out_channels g) rate bits (answered g samples)
+-- the graph's answer to the frames of the samples and then k frames of silence, interleaved
+abbrev pub answered : Graph → ℕ → List ℤ → List ℤ
+answered g k samples = interleaved (answer g (silence k (in_channels g) ++ frames_of (in_channels g) samples))
 
--- what the head of a file says for a graph
-abbrev pub head_for : Graph → List ℕ → Head
-head_for g file = plain_head (in_channels g) file
+-- the size of the samples that are written: as asked, or else that of the input
+abbrev pub chosen : Option ℕ → ℕ → ℕ
+chosen None bits = bits
+chosen (Some asked) bits = asked
 
--- the output file: the answer to the file's samples, with its rate and its size of sample
-abbrev pub output_of : Graph → List ℕ → List ℕ
-output_of g file = rendered g (head_for g file).rate (head_for g file).bits (recorded (head_for g file) file)
+abbrev pub sample_size : Request → Head → ℕ
+sample_size q head = chosen q.bits head.bits
 
--- the bytes of frames in the output file: one frame for each that is read, and for each of the latency
-abbrev pub data_bytes : Graph → Head → ℕ
-data_bytes g head = (head.frames + latency_of_graph g) * (out_channels g * (head.bits / 8))
+-- the output file
+abbrev pub output_of : Request → Graph → Head → List ℤ → List ℕ
+output_of q g head samples = wave_file_of (out_channels g) head.rate (sample_size q head) (answered g (silent_frames q g) samples)
 
--- the file has the form that is read today, and its output is not too long for a WAV file
-pub record IsRenderable (g : Graph) (file : List ℕ) : Type 0 where
-  pub form : IsPlainFile (in_channels g) file
-  pub short : data_bytes g (head_for g file) ≤ 2 ^ 32 - 38
+-- the bytes of its frames: one frame for each that is read, and for each of silence
+abbrev pub data_bytes : Request → Graph → Head → ℕ
+data_bytes q g head = (head.frames + silent_frames q g) * (out_channels g * (sample_size q head / 8))

@@ -1,38 +1,66 @@
 -- What the steps of a run find under a name, where the folder tells.
-use Rattle.std.specs.Prelude.{◌≡◌, ℕ, ℤ, List, take, Option, Some, None, ◌⊎◌, ⊤}
+use Rattle.std.specs.Prelude.{◌≡◌, ℕ, ℤ, ◌-◌, ◌^◌, ◌<◌, min, List, ◌++◌, take, Option, Some, None, Ok, Err, ◌⊎◌, ⊤}
 use Rattle.graph_model.specs.declared.graph.Graph.{Graph}
-use Rattle.graph_records.specs.Texts.{IsGraphText}
-use Rattle.gh_outside.specs.Holdings.{Holding}
-use Rattle.wav_pcm.specs.Files.{recorded}
+use Rattle.graph_model.specs.Sound.{IsSound}
+use Rattle.connections.specs.Faults.{IsFirstFault}
+use Rattle.renderer.specs.Built.{AreBuilt}
+use Rattle.gh_outside.specs.Holdings.{Holding, Holds}
+use Rattle.wav_pcm.specs.Files.{ReadsAs}
 use Rattle.wav_pcm.specs.declared.head.Head.{Head}
-use Rattle.graph_host.specs.Outputs.{IsRenderable, head_for}
-use Rattle.graph_host.specs.Readings.{HoldsGraph}
+use Rattle.wav_pcm.specs.declared.head.WavFault.TheVariants.{TooLong}
+use Rattle.graph_host.specs.Causes.{IsRefusal}
+use Rattle.graph_host.specs.Outputs.{data_bytes, in_channels}
+use Rattle.graph_host.specs.Requests.{Request}
+use Rattle.graph_host.specs.declared.ends.End.{End}
+use Rattle.graph_host.specs.declared.ends.End.TheVariants.{Graph as Checks, NotBuilt, Wav, ReadFault, Memory}
+use Rattle.graph_host.specs.Readings.{HoldsRecords, HoldsGraph, HoldsRecording}
 
--- the name's bytes are the records of this graph
+-- the name holds the records of this graph
+abbrev pub FindsRecords : List ℕ → Graph → Option Holding → Type 0
+FindsRecords name g None = ⊤
+FindsRecords name g (Some files) = HoldsRecords name g files
+
+-- the checks of a graph end it so
+abbrev pub Refuses : Graph → End → Type 0
+Refuses g (Checks fault) = IsFirstFault g fault
+Refuses g NotBuilt = IsSound g × ¬ AreBuilt g
+Refuses g Memory = ⊤
+Refuses g end = ⊥
+
+-- the same of a sound graph whose kinds are built
 abbrev pub FindsGraph : List ℕ → Graph → Option Holding → Type 0
 FindsGraph name g None = ⊤
 FindsGraph name g (Some files) = HoldsGraph name g files
 
--- the name is there, and its bytes are the records of no graph of today
-abbrev pub FindsNoGraph : List ℕ → Option Holding → Type 0
-FindsNoGraph name None = ⊤
-FindsNoGraph name (Some files) = (bytes : List ℕ) × (files name ≡ Some bytes) × ((g : Graph) → IsGraphText bytes g → ⊥)
-
--- the name holds a file that can be rendered, with this head
+-- the name holds a file with this head
 abbrev pub FindsHead : List ℕ → Graph → Head → Option Holding → Type 0
 FindsHead name g head None = ⊤
-FindsHead name g head (Some files) = (file : List ℕ) × (files name ≡ Some file) × IsRenderable g file × (head ≡ head_for g file)
+FindsHead name g head (Some files) = (bytes : List ℕ) × (files name ≡ Some bytes) × ReadsAs (in_channels g) bytes (Ok head)
 
--- the same, with these samples
+-- or it ends by a fault of the file, or by its absence
+abbrev pub IsHeadEnd : List ℕ → Graph → Option Holding → End → Type 0
+IsHeadEnd name g None end = IsRefusal end
+IsHeadEnd name g (Some files) ReadFault = files name ≡ None
+IsHeadEnd name g (Some files) (Wav fault) = (bytes : List ℕ) × (files name ≡ Some bytes) × ReadsAs (in_channels g) bytes (Err fault)
+IsHeadEnd name g (Some files) end = ⊥
+
+-- the output has more bytes of frames than a WAV file can
+abbrev pub IsTooLong : Request → Graph → Head → End → Type 0
+IsTooLong q g head end = (2 ^ 32 - 38 < data_bytes q g head) × (end ≡ Wav (TooLong (min (data_bytes q g head) (2 ^ 64 - 1))))
+
+-- the name holds a file with this head and these samples
 abbrev pub FindsRecording : List ℕ → Graph → Head → List ℤ → Option Holding → Type 0
 FindsRecording name g head samples None = ⊤
-FindsRecording name g head samples (Some files) =
-    (file : List ℕ) × (files name ≡ Some file) × IsRenderable g file × (head ≡ head_for g file) × (samples ≡ recorded head file)
+FindsRecording name g head samples (Some files) = HoldsRecording name g head samples files
 
--- the name is there, and what it holds can't be rendered
-abbrev pub FindsNoRecording : List ℕ → Graph → Option Holding → Type 0
-FindsNoRecording name g None = ⊤
-FindsNoRecording name g (Some files) = (file : List ℕ) × (files name ≡ Some file) × (IsRenderable g file → ⊥)
+-- whatever the name held, it holds that and then the piece
+abbrev pub IsAppended : List ℕ → List ℕ → Option Holding → Option Holding → Type 0
+IsAppended name piece old new = (start : List ℕ) → Holds name start old → Holds name (start ++ piece) new
+
+-- or the first of the piece
+abbrev pub IsPartAppended : List ℕ → List ℕ → Option Holding → Option Holding → Type 0
+IsPartAppended name piece old None = ⊤
+IsPartAppended name piece old (Some files) = (start : List ℕ) → Holds name start old → (n : ℕ) × (files name ≡ Some (start ++ take n piece))
 
 -- the name holds a first part of these bytes, or what it held
 abbrev pub IsPart : List ℕ → List ℕ → Option Holding → Option Holding → Type 0

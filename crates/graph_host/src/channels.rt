@@ -1,75 +1,66 @@
-//! How many channels come into a graph, and how many its answer has.
+//! How many channels come into a sound graph, how many its answer has, and its latency.
 
-ghost use Rattle.std.specs.Prelude.{◌≡◌};
-ghost use Rattle.std.specs.List.{find};
-ghost use Rattle.std.specs.Option.{option_copied};
-ghost use Rattle.graph_model.specs.Graphs.{input_name, is_input, is_output, output_name};
+ghost use Rattle.std.specs.Prelude.{◌≡◌, ◌<◌, ◌≤◌, length};
+ghost use Rattle.std.specs.List.{position};
+ghost use Rattle.graph_model.specs.Graphs.{is_input as is_input_kind, is_output as is_output_kind};
+ghost use Rattle.graph_model.specs.Paths.{latency_of_graph};
 ghost use Rattle.graph_host.specs.Outputs.{in_channels, out_channels};
 
-use graph_model::{Graph, Kind, Node, Uid};
+use connections::Checked;
+use graph_model::{Graph, Kind, Node};
 
 fn is_input(node: &Node) -> bool
-    ensures { result ≡ is_input node.now.kind }
+    ensures { result ≡ is_input_kind node.now.kind }
 {
     matches!(node.kind, Kind::Input { .. })
 }
 
 fn is_output(node: &Node) -> bool
-    ensures { result ≡ is_output node.now.kind }
+    ensures { result ≡ is_output_kind node.now.kind }
 {
     matches!(node.kind, Kind::Output { .. })
 }
 
-/// The first input node.
-fn input_node(graph: &Graph) -> Option<&Node>
-    ensures { option_copied result ≡ find (λ n. is_input n.kind) graph.now.nodes }
+/// The index of the first input node.
+fn input_index(graph: &Graph) -> Option<usize>
+    ensures { result ≡ position (λ n. is_input_kind n.kind) graph.now.nodes }
 {
-    graph.nodes.as_slice().iter().find(|node| is_input(node))
+    graph.nodes.as_slice().iter().position(|node| is_input(node))
 }
 
-/// The first output node.
-fn output_node(graph: &Graph) -> Option<&Node>
-    ensures { option_copied result ≡ find (λ n. is_output n.kind) graph.now.nodes }
+/// The index of the first output node.
+fn output_index(graph: &Graph) -> Option<usize>
+    ensures { result ≡ position (λ n. is_output_kind n.kind) graph.now.nodes }
 {
-    graph.nodes.as_slice().iter().find(|node| is_output(node))
-}
-
-/// The name of the first input node, 0 where there is none.
-fn input_uid(graph: &Graph) -> Uid
-    ensures { result.0 ≡ input_name graph.now }
-{
-    match input_node(graph) {
-        Some(node) => node.uid,
-        None => Uid(0),
-    }
-}
-
-/// The name of the first output node, 0 where there is none.
-fn output_uid(graph: &Graph) -> Uid
-    ensures { result.0 ≡ output_name graph.now }
-{
-    match output_node(graph) {
-        Some(node) => node.uid,
-        None => Uid(0),
-    }
+    graph.nodes.as_slice().iter().position(|node| is_output(node))
 }
 
 /// The channels of the input node.
-pub(crate) fn input_channels(graph: &Graph) -> u32
-    ensures { result ≡ in_channels graph.now }
+pub(crate) fn input_channels(graph: &Checked) -> u32
+    ensures channels { result ≡ in_channels graph.now }
+    ensures least { 1 ≤ result }
+    ensures most { result ≤ 32 }
 {
-    match graph.node(input_uid(graph)) {
-        Some(node) => node.outs(),
-        None => 0,
-    }
+    let graph = graph.graph();
+    let index = input_index(graph).unwrap();
+    graph.nodes.as_slice()[index].outs()
 }
 
 /// The channels of the output node.
-pub(crate) fn output_channels(graph: &Graph) -> u32
-    ensures { result ≡ out_channels graph.now }
+pub(crate) fn output_channels(graph: &Checked) -> u32
+    ensures channels { result ≡ out_channels graph.now }
+    ensures least { 1 ≤ result }
+    ensures most { result ≤ 32 }
 {
-    match graph.node(output_uid(graph)) {
-        Some(node) => node.ins(),
-        None => 0,
-    }
+    let graph = graph.graph();
+    let index = output_index(graph).unwrap();
+    graph.nodes.as_slice()[index].ins()
+}
+
+/// The latency of the graph, in frames.
+pub(crate) fn latency(graph: &Checked) -> u64
+    ensures { result ≡ latency_of_graph graph.now }
+{
+    let index = output_index(graph.graph()).unwrap();
+    graph.reach(index as u32)
 }

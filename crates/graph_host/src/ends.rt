@@ -2,10 +2,13 @@
 
 ghost use Rattle.std.specs.Prelude.{◌≡◌};
 
+use connections::GraphFault;
+use graph_records::RecordFault;
 use thiserror::Error;
+use wav_pcm::WavFault;
 
 /// How a run ended. Its text, but for `Done`, is what the program prints.
-#[derive(Clone, Copy, Debug, PartialEq, Eq, Error)]
+#[derive(Debug, PartialEq, Eq, Error, Drop)]
 pub enum End {
     /// The output file was written whole.
     #[error("done")]
@@ -13,7 +16,22 @@ pub enum End {
     /// The words are no request. Nothing was read or written.
     #[error("the words are no request")]
     Words,
-    /// A read failed, or a file that the request reads is not there.
+    /// Input and output are one file. Nothing was read or written.
+    #[error("input and output have the same name")]
+    SameName,
+    /// The graph's file holds no records of a graph. Nothing was written.
+    #[error("graph: {0}")]
+    Records(RecordFault),
+    /// The graph is not sound: its first check that fails. Nothing was written.
+    #[error("graph: {0}")]
+    Graph(GraphFault),
+    /// The graph is sound and has a kind that can't be rendered today. Nothing was written.
+    #[error("not built yet")]
+    NotBuilt,
+    /// The input is no WAV file for the graph, or its output would be too long. Nothing was written.
+    #[error("wav: {0}")]
+    Wav(WavFault),
+    /// A read failed, or a file that the request reads is not there. Nothing was written.
     #[error("a read failed")]
     ReadFault,
     /// A write failed. The output is as it was, or holds a first part of the file.
@@ -22,13 +40,10 @@ pub enum End {
     /// There was no memory. Nothing was written.
     #[error("no memory")]
     Memory,
-    /// A file is no graph or no recording that can be rendered today. Nothing was written.
-    #[error("not built yet")]
-    NotBuilt,
 }
 
 /// The end of a run with the program's exit status for it.
-#[derive(Clone, Copy, Debug, PartialEq, Eq)]
+#[derive(Debug, PartialEq, Eq, Drop)]
 pub struct Run {
     pub status: u8,
     pub end: End,

@@ -12,9 +12,13 @@
 
 mod channels;
 mod ends;
-mod inputs;
+mod forms;
+mod graphs;
+pub mod laws;
 mod load;
+mod number;
 mod output;
+mod recordings;
 mod render;
 mod request;
 mod status;
@@ -66,6 +70,7 @@ fn ended<R: Eprint>(rt: &R, run: Run) -> ExitCode {
     }
     ExitCode::from(run.status)
 }
+
 
 #[cfg(test)]
 mod tests;

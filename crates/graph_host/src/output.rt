@@ -1,81 +1,118 @@
 //! The output file, made in memory and then written.
 
-ghost use Rattle.std.specs.Prelude.{◌≡◌, ◌+◌, ◌*◌, ◌^◌, ◌<◌, ◌≤◌, ◌++◌, IfOk, OnOk, OnErr, length, unsigned_abs};
+ghost use Rattle.std.specs.Prelude.{◌≡◌, ◌*◌, ◌/◌, ◌%◌, ◌^◌, ◌≤◌, ◌⊎◌, IfOk, OnOk, OnErr, length, replicate, unsigned_abs};
 ghost use Rattle.std.specs.List.{All};
-ghost use Rattle.graph_model.specs.Forward.{IsForward};
+ghost use Rattle.graph_model.specs.Sound.{IsSound};
 ghost use Rattle.gh_outside.specs.Causes.{Rose};
-ghost use Rattle.gh_outside.specs.Holdings.{Holds, KeepsOthers};
-ghost use Rattle.wav_pcm.specs.Files.{IsHead};
+ghost use Rattle.gh_outside.specs.Holdings.{Holds, IsMissing, KeepsOthers};
+ghost use Rattle.renderer.specs.Built.{AreBuilt};
 ghost use Rattle.wav_pcm.specs.Samples.{bytes_of};
-ghost use Rattle.graph_host.specs.Outputs.{data_bytes, in_channels, rendered};
-ghost use Rattle.graph_host.specs.Steps.{IsPart};
+ghost use Rattle.graph_host.specs.Outputs.{in_channels, out_channels};
+ghost use Rattle.graph_host.specs.Files.{file_of, rendered, HasRoom};
+ghost use Rattle.graph_host.specs.Forms.{IsForm};
+ghost use Rattle.graph_host.specs.Steps.{IsAppended, IsPart, IsPartAppended};
 
-use crate::channels::output_channels;
-use crate::inputs::Recording;
+use crate::forms::Form;
+use crate::recordings::Recording;
+use connections::Checked;
 use gh_outside::{Failed, Folder};
-use graph_model::{Graph, List};
+use graph_model::List;
 use renderer::answer;
 use std::alloc::{AllocError, Global};
 use wav_pcm::{head_bytes, put_frames};
 
-/// An output file of 16 bits: its head, the samples of its frames, interleaved and scaled to 32 bits, and room for
-/// their bytes.
+/// An output file: its head, the samples of its frames, interleaved and scaled to 32 bits, the bits of a sample, and
+/// room for the bytes of the frames.
 #[derive(Drop)]
 pub(crate) struct OutputFile {
     head: [u8; 44],
     samples: List<i64>,
+    bits: u32,
     bytes: Vec<u8>,
 }
 
 /// What a graph makes of a recording.
 pub(crate) fn rendered_file(
     alloc: Global,
-    graph: &Graph,
+    graph: &Checked,
     recording: &Recording,
 ) -> Result<OutputFile, AllocError>
-    requires forward { IsForward graph.now }
-    requires head { IsHead recording.now.head × (recording.now.head.channels ≡ in_channels graph.now) × (recording.now.head.bits ≡ 16) }
-    requires short { data_bytes graph.now recording.now.head ≤ 4294967258 }
-    requires whole { length recording.now.samples.items ≡ recording.now.head.frames * in_channels graph.now }
+    requires sound { IsSound graph.now }
+    requires built { AreBuilt graph.now }
+    requires form { IsForm recording.now.form }
+    requires channels { recording.now.form.channels ≡ out_channels graph.now }
+    requires short { recording.now.form.frames * (recording.now.form.channels * (recording.now.form.bits / 8)) ≤ 4294967258 }
+    requires whole { length recording.now.samples.items ≡ recording.now.form.frames * in_channels graph.now }
     requires small { All (λ x. unsigned_abs x ≤ 2 ^ 31) recording.now.samples.items }
-    ensures file { IfOk result (λ o. o.head ++ bytes_of 16 o.samples ≡ rendered graph.now recording.now.head.rate 16 recording.now.samples.items) }
-    ensures room { IfOk result (λ o. length o.bytes.items ≡ length o.samples * 2) }
+    ensures file { IfOk result (λ o. file_of o ≡ rendered graph.now recording.now.form recording.now.samples.items) }
+    ensures room { IfOk result HasRoom }
 {
+    let form = &recording.form;
     let samples = answer(alloc, graph, recording.samples.as_slice())?;
-    let bytes = vec![in alloc; 0u8; samples.len() * 2]?;
+    let bytes = vec![in alloc; 0u8; samples.len() * (form.bits as usize / 8)]?;
     let mut head = [0; 44];
-    head_bytes(
-        output_channels(graph),
-        recording.head.rate,
-        16,
-        recording.head.frames,
-        &mut head,
-    );
+    head_bytes(form.channels, form.rate, form.bits, form.frames as u64, &mut head);
     Ok(OutputFile {
         head,
         samples,
+        bits: form.bits,
         bytes,
     })
 }
 
-/// Makes a file of the output: its head, and then its frames, if there are any.
+/// Appends the frames of the output, if there are any.
+fn append_frames<F: Folder>(
+    folder: &mut F,
+    name: &str,
+    file: &mut OutputFile,
+) -> Result<(), Failed>
+    requires { HasRoom file.old }
+    ensures others { KeepsOthers name.now (F.held folder.old) (F.held folder.new) }
+    ensures ok { OnOk result (IsAppended name.now (bytes_of file.old.bits file.old.samples) (F.held folder.old) (F.held folder.new)) }
+    ensures part { OnErr result (IsPartAppended name.now (bytes_of file.old.bits file.old.samples) (F.held folder.old) (F.held folder.new)) }
+    ensures failed { OnErr result (Rose (F.write_faults folder.old) (F.write_faults folder.new) ⊎ IsMissing name.now (F.held folder.old)) }
+    ensures room { length file.new.bytes.items ≡ length file.old.bytes.items }
+    ensures reads { F.read_faults folder.new ≡ F.read_faults folder.old }
+    ensures writes { F.write_faults folder.old ≤ F.write_faults folder.new }
+{
+    if file.samples.len() == 0 {
+        return Ok(());
+    }
+    put_frames(folder, name, file.bits, file.samples.as_slice(), &mut file.bytes)
+}
+
+/// Appends a byte 0 after an odd number of bytes.
+fn append_pad<F: Folder>(folder: &mut F, name: &str, count: usize) -> Result<(), Failed>
+    ensures others { KeepsOthers name.now (F.held folder.old) (F.held folder.new) }
+    ensures ok { OnOk result (IsAppended name.now (replicate (count % 2) 0) (F.held folder.old) (F.held folder.new)) }
+    ensures part { OnErr result (IsPartAppended name.now (replicate (count % 2) 0) (F.held folder.old) (F.held folder.new)) }
+    ensures failed { OnErr result (Rose (F.write_faults folder.old) (F.write_faults folder.new) ⊎ IsMissing name.now (F.held folder.old)) }
+    ensures reads { F.read_faults folder.new ≡ F.read_faults folder.old }
+    ensures writes { F.write_faults folder.old ≤ F.write_faults folder.new }
+{
+    if count % 2 == 0 {
+        return Ok(());
+    }
+    folder.append(name, &[0])
+}
+
+/// Makes a file of the output: its head, then its frames, if there are any, and a byte 0 where their bytes are odd in
+/// number.
 pub(crate) fn write_file<F: Folder>(
     folder: &mut F,
     name: &str,
     file: &mut OutputFile,
 ) -> Result<(), Failed>
-    requires { length file.old.bytes.items ≡ length file.old.samples * 2 }
+    requires { HasRoom file.old }
     ensures others { KeepsOthers name.now (F.held folder.old) (F.held folder.new) }
-    ensures ok { OnOk result (Holds name.now (file.old.head ++ bytes_of 16 file.old.samples) (F.held folder.new)) }
-    ensures part { IsPart name.now (file.old.head ++ bytes_of 16 file.old.samples) (F.held folder.old) (F.held folder.new) }
+    ensures ok { OnOk result (Holds name.now (file_of file.old) (F.held folder.new)) }
+    ensures part { IsPart name.now (file_of file.old) (F.held folder.old) (F.held folder.new) }
     ensures failed { OnErr result (Rose (F.write_faults folder.old) (F.write_faults folder.new)) }
     ensures reads { F.read_faults folder.new ≡ F.read_faults folder.old }
     ensures writes { F.write_faults folder.old ≤ F.write_faults folder.new }
 {
     folder.create(name)?;
     folder.append(name, &file.head)?;
-    if file.samples.len() == 0 {
-        return Ok(());
-    }
-    put_frames(folder, name, 16, file.samples.as_slice(), &mut file.bytes)
+    append_frames(folder, name, file)?;
+    append_pad(folder, name, file.bytes.len())
 }

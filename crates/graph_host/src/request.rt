@@ -1,15 +1,25 @@
 //! What the words of the command line ask for.
 
-ghost use Rattle.std.specs.Prelude.{◌≡◌, map, string_bytes};
-ghost use Rattle.std.specs.Option.{option_map};
-ghost use Rattle.graph_host.specs.Requests.{asked, is_option, named, request_of};
+ghost use Rattle.std.specs.Prelude.{◌≡◌, map, option_map, string_bytes};
+ghost use Rattle.std.specs.Option.{IfSome};
+ghost use Rattle.graph_host.specs.Forms.{HasSize};
+ghost use Rattle.graph_host.specs.Requests.{asked, bits_of, is_option, options_of, request_in, request_of, tail_of, taken};
 
-/// The three names of a request to render.
+use crate::number::number;
+
+/// A request to render, by the words `render GRAPH IN OUT [--tail T] [--bits B]`.
 #[derive(Clone, Copy)]
-pub(crate) struct Names<'a> {
+pub(crate) struct RenderRequest<'a> {
+    /// The name of the graph's records.
     pub(crate) graph: &'a str,
+    /// The name of the file that is read.
     pub(crate) input: &'a str,
+    /// The name of the file that is written.
     pub(crate) output: &'a str,
+    /// How many frames of silence come after the input.
+    pub(crate) tail: u32,
+    /// The size of the samples that are written, if it is not that of the input.
+    pub(crate) bits: Option<u32>,
 }
 
 /// Whether a word begins with a dash.
@@ -22,31 +32,94 @@ fn is_option(word: &str) -> bool
     }
 }
 
-/// What three names ask for.
-fn three_names<'a>(graph: &'a str, input: &'a str, output: &'a str) -> Option<Names<'a>>
-    ensures { option_map (λ n. asked n.graph.now n.input.now n.output.now) result ≡ named graph.now input.now output.now }
+/// The value of an option that the words begin with, and the words after it.
+fn taken<'a>(option: &str, words: &'a [String]) -> (Option<&'a str>, &'a [String])
+    ensures { (option_map (λ s. s.now) result.0, map string_bytes result.1.now) ≡ taken option.now (map string_bytes words.now) }
 {
-    if is_option(graph) || is_option(input) || is_option(output) || input == output {
+    match words {
+        [word, value, rest @ ..] if word.as_str() == option => (Some(value.as_str()), rest),
+        _ => (None, words),
+    }
+}
+
+/// The frames of a tail, none where the option is not there.
+fn tail(value: Option<&str>) -> Option<u32>
+    ensures { result ≡ tail_of (option_map (λ s. s.now) value.entry) }
+{
+    match value {
+        Some(text) => number(text)
+            .filter(|frames| *frames <= u32::MAX as u64)
+            .map(|frames| frames as u32),
+        None => Some(0),
+    }
+}
+
+/// A size of sample in bits, and none where the option is not there.
+fn bits(value: Option<&str>) -> Option<Option<u32>>
+    ensures value { result ≡ bits_of (option_map (λ s. s.now) value.entry) }
+    ensures size { IfSome result HasSize }
+{
+    match value {
+        Some(text) => number(text)
+            .filter(|bits| matches!(*bits, 8 | 16 | 24 | 32))
+            .map(|bits| Some(bits as u32)),
+        None => Some(None),
+    }
+}
+
+/// The tail and the size of sample of these options, and nothing more.
+fn options_in(words: &[String]) -> Option<(u32, Option<u32>)>
+    ensures options { result ≡ options_of (map string_bytes words.now) }
+    ensures size { IfSome result (λ o. HasSize o.1) }
+{
+    let (tail_text, words) = taken("--tail", words);
+    let (bits_text, words) = taken("--bits", words);
+    if !words.is_empty() {
         return None;
     }
-    Some(Names {
+    Some((tail(tail_text)?, bits(bits_text)?))
+}
+
+/// What the words ask for, if they are a request.
+pub(crate) fn request(words: &[String]) -> Option<RenderRequest<'_>>
+    ensures request { option_map request_in result ≡ request_of (map string_bytes words.now) }
+    ensures size { IfSome result (λ r. HasSize r.bits) }
+{
+    let [mode, graph, input, output, options @ ..] = words else {
+        return None;
+    };
+    if mode.as_str() != "render" {
+        return None;
+    }
+    let (tail, bits) = options_in(options)?;
+    names(
+        graph.as_str(),
+        input.as_str(),
+        output.as_str(),
+        tail,
+        bits,
+    )
+}
+
+/// A request of three names, none of them an option.
+fn names<'a>(
+    graph: &'a str,
+    input: &'a str,
+    output: &'a str,
+    tail: u32,
+    bits: Option<u32>,
+) -> Option<RenderRequest<'a>>
+    ensures request { option_map request_in result ≡ asked graph.now input.now output.now (tail, bits) }
+    ensures size { IfSome result (λ r. r.bits ≡ bits) }
+{
+    if is_option(graph) || is_option(input) || is_option(output) {
+        return None;
+    }
+    Some(RenderRequest {
         graph,
         input,
         output,
+        tail,
+        bits,
     })
-}
-
-/// What the words ask for: `render GRAPH IN OUT`, three names of which none begins with a dash, IN and OUT two files.
-pub(crate) fn request(words: &[String]) -> Option<Names<'_>>
-    ensures { option_map (λ n. asked n.graph.now n.input.now n.output.now) result ≡ request_of (map string_bytes words.now) }
-{
-    match words {
-        [mode, graph, input, output] => {
-            if mode.as_str() != "render" {
-                return None;
-            }
-            three_names(graph.as_str(), input.as_str(), output.as_str())
-        }
-        _ => None,
-    }
 }

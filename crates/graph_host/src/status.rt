@@ -10,9 +10,11 @@ pub(crate) fn ended(end: End) -> Run
     ensures end { result.end ≡ end }
     ensures status { result.status ≡ status_of end }
 {
-    let status = match end {
+    let status = match &end {
         End::Done => 0,
-        End::Words => 2,
+        End::Words | End::SameName => 2,
+        End::Records(_) | End::Graph(_) => 3,
+        End::Wav(_) => 4,
         End::ReadFault => 5,
         End::WriteFault => 6,
         End::Memory => 8,

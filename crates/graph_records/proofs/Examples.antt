@@ -1,120 +1,130 @@
 -- The definitions at small records and graphs, by computation.
-use Rattle.std.proofs.Common.{◌≡◌, ◌≢◌, ◌<◌, ℕ, List, [], ◌∷◌, codes, pos, negsuc, refl, arith, Ok, Err, None}
-use Rattle.std.specs.Prelude.{AllPairs}
+use Rattle.std.proofs.Common.{◌≡◌, ℕ, List, [], ◌∷◌, ◌++◌, codes, ℤ, pos, negsuc, refl, Result, Ok, Err}
+use Rattle.std.specs.Fmt.{digits}
 use Rattle.std.specs.Str.{is_utf8, chars}
-use Rattle.std.proofs.lemmas.List.Elements.{All-from_recursion}
-use Rattle.std.proofs.lemmas.List.Kept.{AllPairs-cons}
 use Rattle.serde_json.proofs.OnLiterals.{serde_json_on_literals}
-use Rattle.graph_model.specs.Forward.{IsBeside, IsForward, IsPlain, place_in}
-use Rattle.graph_model.specs.Graphs.{ins_at, outs_at}
-use Rattle.graph_model.specs.Members.{bad_member}
-use Rattle.graph_model.specs.declared.graph.Connection.{Connection}
+use Rattle.json.specs.Print.{escape_byte}
 use Rattle.graph_model.specs.declared.graph.Graph.{Graph}
-use Rattle.graph_model.specs.declared.graph.Node.{Node}
-use Rattle.graph_model.specs.declared.kind.Kind.TheVariants.{Input, Output, Gain}
+use Rattle.graph_model.specs.declared.kind.Kind.TheVariants.{Input, Output, Gain, Mixer, Fir, Limiter}
+use Rattle.graph_model.specs.declared.member.Member.{Member}
+use Rattle.graph_model.specs.declared.member.Member.TheVariants as member
 use Rattle.graph_model.proofs.Examples.{node, joined}
-use Rattle.graph_records.proofs.ForwardLemmas.{uids_apart, besides_apart}
+use Rattle.graph_records.specs.FaultTexts.{place_text}
 use Rattle.graph_records.specs.Walk.{walk}
-use Rattle.graph_records.specs.Texts.{IsGraphText}
-use Rattle.graph_records.specs.declared.fault.RecordFault.TheVariants.{NotBuilt}
+use Rattle.graph_records.specs.Written.{text_of}
+use Rattle.graph_records.specs.declared.fault.Part.{Part}
+use Rattle.graph_records.specs.declared.fault.Part.TheVariants.{Top, Filter, Link}
+use Rattle.graph_records.specs.declared.fault.Place.{Place}
+use Rattle.graph_records.specs.declared.fault.RecordFault.{RecordFault}
+use Rattle.graph_records.specs.declared.fault.RecordFault.TheVariants.{Text, Shape, Limit}
 
--- an input, a gain of a half and an output
-abbrev pub half : Graph
-half = record {
-  nodes = node 1 (Input 1) ∷ node 3 (Gain 1 (pos 32768)) ∷ node 2 (Output 1) ∷ [];
-  connections = joined 1 0 3 0 ∷ joined 3 0 2 0 ∷ [];
-}
+abbrev place : Part → ℕ → Member → Place
+place p i m = record { part = p; index = i; member = m }
 
--- ---- the walk, from the bytes
+-- the text of these records of nodes, without connections
+abbrev text_with : List ℕ → List ℕ
+text_with nodes = codes "{\"FILTERGRAPH\":{\"FILTER\":[" ++ nodes ++ codes "]}}"
 
-pub half_text : List ℕ
-half_text = codes "{\"FILTERGRAPH\":{\"FILTER\":[{\"uid\":1,\"kind\":\"input\",\"channels\":1},{\"uid\":3,\"kind\":\"gain\",\"channels\":1,\"gain\":32768},{\"uid\":2,\"kind\":\"output\",\"channels\":1}],\"CONNECTION\":[{\"srcFilter\":1,\"srcChannel\":0,\"dstFilter\":3,\"dstChannel\":0},{\"srcFilter\":3,\"srcChannel\":0,\"dstFilter\":2,\"dstChannel\":0}]}}"
+-- ---- graphs that are read
 
-pub half_is_read : walk half_text ≡ Ok half
-unfolding half_text walk serde_json_on_literals is_utf8 chars
-half_is_read = refl
+-- a straight connection
+abbrev straight : Graph
+straight = record { nodes = node 1 (Input 1) ∷ node 2 (Output 1) ∷ []; connections = joined 1 0 2 0 ∷ [] }
+
+abbrev straight_text : List ℕ
+straight_text = codes "{\"FILTERGRAPH\":{\"CONNECTION\":[{\"dstChannel\":0,\"dstFilter\":2,\"srcChannel\":0,\"srcFilter\":1}],\"FILTER\":[{\"channels\":1,\"kind\":\"input\",\"uid\":1},{\"channels\":1,\"kind\":\"output\",\"uid\":2}]}}"
+
+straight_is_read : walk straight_text ≡ Ok straight
+unfolding walk serde_json_on_literals is_utf8 chars
+straight_is_read = refl
+
+straight_is_written : text_of straight ≡ straight_text
+unfolding text_of digits escape_byte
+straight_is_written = refl
 
 -- an absent list of connections is empty, other members are ignored, and the last of equal names counts
-absent_connections : walk (codes "{\"FILTERGRAPH\":{\"FILTER\":[{\"uid\":7,\"uid\":1,\"kind\":\"input\",\"channels\":2,\"gain\":1.5}]}}")
-    ≡ Ok (record { nodes = node 1 (Input 2) ∷ []; connections = [] })
+absent_connections : walk (text_with (codes "{\"uid\":7,\"uid\":1,\"kind\":\"input\",\"channels\":2,\"gain\":null}")) ≡ Ok (record { nodes = node 1 (Input 2) ∷ []; connections = [] })
 unfolding walk serde_json_on_literals is_utf8 chars
 absent_connections = refl
 
-least_gain : walk (codes "{\"FILTERGRAPH\":{\"FILTER\":[{\"uid\":3,\"kind\":\"gain\",\"channels\":1,\"gain\":-2147483648}]}}")
-    ≡ Ok (record { nodes = node 3 (Gain 1 (negsuc 2147483647)) ∷ []; connections = [] })
+one_of_each_list : walk (text_with (codes "{\"uid\":3,\"kind\":\"fir\",\"channels\":1,\"taps\":[1,-2],\"shift\":0,\"latency\":1},{\"uid\":4,\"kind\":\"mixer\",\"ins\":0,\"outs\":9,\"gains\":[]}"))
+    ≡ Ok (record { nodes = node 3 (Fir 1 (pos 1 ∷ negsuc 1 ∷ []) 0 1) ∷ node 4 (Mixer 0 9 []) ∷ []; connections = [] })
 unfolding walk serde_json_on_literals is_utf8 chars
-least_gain = refl
+one_of_each_list = refl
 
-no_text : walk (codes "{") ≡ Err NotBuilt
+least_gain_and_greatest_threshold :
+    walk (text_with (codes "{\"uid\":0,\"kind\":\"gain\",\"channels\":1,\"gain\":-2147483648},{\"uid\":0,\"kind\":\"limiter\",\"channels\":1,\"threshold\":18446744073709551615,\"lookahead\":2}"))
+    ≡ Ok (record { nodes = node 0 (Gain 1 (negsuc 2147483647)) ∷ node 0 (Limiter 1 18446744073709551615 2) ∷ []; connections = [] })
+unfolding walk serde_json_on_literals is_utf8 chars
+least_gain_and_greatest_threshold = refl
+
+-- ---- faults
+
+no_text : walk (codes "{") ≡ Err Text
 unfolding walk serde_json_on_literals is_utf8 chars
 no_text = refl
 
-null_connections : walk (codes "{\"FILTERGRAPH\":{\"FILTER\":[],\"CONNECTION\":null}}") ≡ Err NotBuilt
+no_utf8 : walk (34 ∷ 255 ∷ 34 ∷ []) ≡ Err Text
+unfolding walk serde_json_on_literals is_utf8 chars
+no_utf8 = refl
+
+no_graph : walk (codes "{\"FILTERGRAPH\":[]}") ≡ Err (Shape (place Top 0 member.Graph))
+unfolding walk serde_json_on_literals is_utf8 chars
+no_graph = refl
+
+null_connections : walk (codes "{\"FILTERGRAPH\":{\"FILTER\":[1],\"CONNECTION\":null}}") ≡ Err (Shape (place Top 0 member.Connection))
 unfolding walk serde_json_on_literals is_utf8 chars
 null_connections = refl
 
-other_kind : walk (codes "{\"FILTERGRAPH\":{\"FILTER\":[{\"uid\":1,\"kind\":\"mixer\",\"channels\":1}]}}") ≡ Err NotBuilt
+nodes_before_connections : walk (codes "{\"FILTERGRAPH\":{\"CONNECTION\":[1],\"FILTER\":[2]}}") ≡ Err (Shape (place Filter 0 member.Item))
 unfolding walk serde_json_on_literals is_utf8 chars
-other_kind = refl
+nodes_before_connections = refl
 
-uid_below_zero : walk (codes "{\"FILTERGRAPH\":{\"FILTER\":[{\"uid\":-1,\"kind\":\"input\",\"channels\":1}]}}") ≡ Err NotBuilt
+unknown_kind_at_the_second : walk (text_with (codes "{\"uid\":1,\"kind\":\"input\",\"channels\":1},{\"uid\":2,\"kind\":\"reverb\"}")) ≡ Err (Shape (place Filter 1 member.Kind))
+unfolding walk serde_json_on_literals is_utf8 chars
+unknown_kind_at_the_second = refl
+
+uid_below_zero : walk (text_with (codes "{\"uid\":-1,\"kind\":\"reverb\"}")) ≡ Err (Limit (place Filter 0 member.Uid) (negsuc 0))
 unfolding walk serde_json_on_literals is_utf8 chars
 uid_below_zero = refl
 
-uid_of_33_bits : walk (codes "{\"FILTERGRAPH\":{\"FILTER\":[{\"uid\":4294967296,\"kind\":\"input\",\"channels\":1}]}}") ≡ Err NotBuilt
+uid_of_33_bits : walk (text_with (codes "{\"uid\":4294967296,\"kind\":\"input\",\"channels\":1}")) ≡ Err (Limit (place Filter 0 member.Uid) (pos 4294967296))
 unfolding walk serde_json_on_literals is_utf8 chars
 uid_of_33_bits = refl
 
--- ---- the graphs that can be read
+threshold_below_zero : walk (text_with (codes "{\"uid\":1,\"kind\":\"limiter\",\"channels\":1,\"threshold\":-5}")) ≡ Err (Limit (place Filter 0 member.Threshold) (negsuc 4))
+unfolding walk serde_json_on_literals is_utf8 chars
+threshold_below_zero = refl
 
-no_pairs : {X : Type 0} (R : X → X → Type 0) → AllPairs R []
-no_pairs R i j d order within = absurd (omega arith)
+first_bad_tap : walk (text_with (codes "{\"uid\":1,\"kind\":\"fir\",\"channels\":1,\"taps\":[0,2147483648,null]}")) ≡ Err (Limit (place Filter 0 member.Taps) (pos 2147483648))
+unfolding walk serde_json_on_literals is_utf8 chars
+first_bad_tap = refl
 
-half_is_forward : IsForward half
-half_is_forward =
-    let differ = λ (m n : Node). m.uid ≢ n.uid in
-    let apart = λ (c d : Connection). IsBeside c d → ⊥ in
-    let n1 = node 1 (Input 1) in
-    let n3 = node 3 (Gain 1 (pos 32768)) in
-    let n2 = node 2 (Output 1) in
-    let c1 = joined 1 0 3 0 in
-    let c2 = joined 3 0 2 0 in
-    record {
-      uids_differ = AllPairs-cons differ n1 (n3 ∷ n2 ∷ []) (All-from_recursion (differ n1) (n3 ∷ n2 ∷ []) (uids_apart n1 n3 refl, (uids_apart n1 n2 refl, tt)))
-          (AllPairs-cons differ n3 (n2 ∷ []) (All-from_recursion (differ n3) (n2 ∷ []) (uids_apart n3 n2 refl, tt))
-          (AllPairs-cons differ n2 [] (All-from_recursion (differ n2) [] tt) (no_pairs differ)));
-      in_range = All-from_recursion (λ n. bad_member n ≡ None) half.nodes (refl, (refl, (refl, tt)));
-      plain = All-from_recursion (λ n. IsPlain n.kind) half.nodes (tt, ((omega arith), (tt, tt)));
-      ends = (refl, refl);
-      rises = All-from_recursion (λ c. place_in half c.src.0 < place_in half c.dst.0) half.connections ((omega arith), ((omega arith), tt));
-      channels = All-from_recursion (λ c. (c.src_channel < outs_at half c.src.0) × (c.dst_channel < ins_at half c.dst.0)) half.connections
-          (((omega arith), (omega arith)), (((omega arith), (omega arith)), tt));
-      single = AllPairs-cons apart c1 (c2 ∷ []) (All-from_recursion (apart c1) (c2 ∷ []) (besides_apart c1 c2 refl, tt))
-          (AllPairs-cons apart c2 [] (All-from_recursion (apart c2) [] tt) (no_pairs apart));
-    }
+missing_destination : walk (codes "{\"FILTERGRAPH\":{\"FILTER\":[],\"CONNECTION\":[{\"srcFilter\":1,\"srcChannel\":0,\"dstChannel\":0}]}}")
+    ≡ Err (Shape (place Link 0 member.DstFilter))
+unfolding walk serde_json_on_literals is_utf8 chars
+missing_destination = refl
 
--- its text is that of a graph
-half_is_graph_text : IsGraphText half_text half
-half_is_graph_text = (half_is_read, half_is_forward)
+-- ---- other answers are refused
 
--- the output before the input
-backward : Graph
-backward = record {
-  nodes = node 2 (Output 1) ∷ node 1 (Input 1) ∷ [];
-  connections = joined 1 0 2 0 ∷ [];
-}
+shape_or_limit : (r : Result Graph RecordFault) (p q : Place) (got : ℤ) → r ≡ Err (Limit q got) → r ≡ Err (Shape p) → ⊥
+shape_or_limit r p q got is other = cc
 
-backward_is_refused : IsForward backward → ⊥
-unfolding backward
-backward_is_refused f = let rising : place_in backward 1 < place_in backward 2 = f.rises 0 (joined 0 0 0 0) (omega arith) in omega arith
+uid_below_zero_is_no_shape : walk (text_with (codes "{\"uid\":-1,\"kind\":\"reverb\"}")) ≡ Err (Shape (place Filter 0 member.Uid)) → ⊥
+uid_below_zero_is_no_shape = shape_or_limit _ (place Filter 0 member.Uid) (place Filter 0 member.Uid) (negsuc 0) uid_below_zero
 
--- both channels of the input into the one of the output
-crossed : Graph
-crossed = record {
-  nodes = node 1 (Input 2) ∷ node 2 (Output 1) ∷ [];
-  connections = joined 1 0 2 0 ∷ joined 1 1 2 0 ∷ [];
-}
+one_graph : (r : Result Graph RecordFault) (g : Graph) (f : RecordFault) → r ≡ Ok g → r ≡ Err f → ⊥
+one_graph r g f is other = cc
 
-crossed_is_refused : IsForward crossed → ⊥
-unfolding crossed
-crossed_is_refused f = f.single 0 1 (joined 0 0 0 0) (omega arith) (omega arith) (refl, refl)
+straight_is_no_fault : (f : RecordFault) → walk straight_text ≡ Err f → ⊥
+straight_is_no_fault f = one_graph (walk straight_text) straight f straight_is_read
+
+-- ---- texts
+
+text_of_a_place : place_text (place Link 12 member.DstFilter) ≡ codes "connection 12 dstFilter"
+unfolding digits
+text_of_a_place = refl
+
+text_of_a_record : place_text (place Filter 0 member.Item) ≡ codes "filter 0 record"
+unfolding digits
+text_of_a_record = refl

@@ -1,4 +1,6 @@
 pub mod Lists
-pub mod ForwardLemmas
 pub mod FitLemmas
+pub mod WrittenLists
+pub mod PlainTexts
+pub mod ReadBack
 pub mod Examples

@@ -10,9 +10,10 @@ use Rattle.serde_json.specs.Read.{read}
 use Rattle.graph_model.specs.declared.refused.Refused.{Refused}
 use Rattle.graph_model.specs.declared.refused.Refused.TheVariants.{Fault, Memory}
 use Rattle.graph_model.specs.Refusals.{and_then, onto, Gives}
-use Rattle.graph_records.specs.Walk.{each_from, list_of, graph_of, walk, walk_of}
+use Rattle.graph_records.specs.Entries.{each_from, list_of}
+use Rattle.graph_records.specs.Walk.{graph_of, walk, walk_of}
 use Rattle.graph_records.specs.declared.fault.RecordFault.{RecordFault}
-use Rattle.graph_records.specs.declared.fault.RecordFault.TheVariants.{NotBuilt}
+use Rattle.graph_records.specs.declared.fault.RecordFault.TheVariants.{Text}
 
 abbrev pub appended : {A : Type 0} → List A → Result (List A) RecordFault → Result (List A) RecordFault
 appended found (Ok xs) = Ok (found ++ xs)
@@ -68,11 +69,11 @@ list_of-items_of (d ∷ ds) = ap (λ xs. d ∷ xs) (list_of-items_of ds)
 
 -- ---- the text
 
-pub walk_none : (bytes : List ℕ) → (IsUtf8 bytes → read bytes ≡ None) → walk bytes ≡ Err NotBuilt
+pub walk_none : (bytes : List ℕ) → (IsUtf8 bytes → read bytes ≡ None) → walk bytes ≡ Err Text
 unfolding walk
 walk_none bytes never = go (is_utf8 bytes) refl
   where
-    go : (b : Bool) → is_utf8 bytes ≡ b → walk_of (if b then read bytes else None) ≡ Err NotBuilt
+    go : (b : Bool) → is_utf8 bytes ≡ b → walk_of (if b then read bytes else None) ≡ Err Text
     go true h = rw (never (IsUtf8-from_is_utf8 bytes h)) refl
     go false h = refl
 

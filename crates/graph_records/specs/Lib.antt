@@ -1,2 +1,8 @@
+pub mod Numbers
+pub mod Entries
+pub mod Rows
 pub mod Walk
-pub mod Texts
+pub mod Typed
+pub mod Written
+pub mod FaultTexts
+pub mod Laws

@@ -1,18 +1,25 @@
-//! The graph that JSON records (RFC 8259) are, as far as graphs are read today.
+//! The graph that JSON records (RFC 8259) are, and the records of a graph.
 //!
-//! `read_graph` answers a graph exactly where the bytes are the records of one that can be read
-//! today: an input, gains and an output, whose connections lead forward in the list of nodes. It
-//! answers a fault exactly where they are not, and want of memory alone is free. It stands on
-//! `serde_json`'s reading of the bytes, and on the definitions of `graph_model`.
+//! `read_graph` answers the graph that the bytes are the records of, or the first fault of the
+//! bytes in the order in which records are read, exactly (`specs/Walk`); want of memory alone is
+//! free. `write_graph` answers the one text of a graph's records (`specs/Written`), and a law
+//! (`laws`) says that reading it gives the graph. What is read need not be a graph that can be
+//! rendered: ranges and connections are not judged here.
+//!
+//! It stands on `serde_json`'s reading and writing, on `thiserror`, and on the definitions of
+//! `graph_model`.
 #![tactic(auto)]
 
 mod entry;
 mod fault;
-mod forward;
+pub mod laws;
+mod rows;
 mod walk;
+mod write;
 
-pub use fault::RecordFault;
+pub use fault::{Part, Place, RecordFault};
 pub use walk::read_graph;
+pub use write::write_graph;
 
 #[cfg(test)]
 mod tests;

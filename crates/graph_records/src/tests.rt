@@ -1,108 +1,356 @@
-use crate::{RecordFault, read_graph};
-use graph_model::{Connection, Graph, Kind, List, Node, Refused, Uid};
+use crate::{Part, Place, RecordFault, read_graph, write_graph};
+use graph_model::{Connection, Graph, Kind, List, Member, Node, Refused, Uid};
 use std::alloc::{AllocError, Global};
 use std::test::Fail;
 
-// The graph, and none where the bytes are not read as one.
-fn read(alloc: Global, text: &str) -> Result<Option<Graph>, AllocError> {
-    match read_graph(alloc, text.as_bytes()) {
-        Ok(graph) => Ok(Some(graph)),
-        Err(Refused::Fault(RecordFault::NotBuilt)) => Ok(None),
+// The graph or the fault.
+fn read(alloc: Global, bytes: &[u8]) -> Result<Result<Graph, RecordFault>, AllocError> {
+    match read_graph(alloc, bytes) {
+        Ok(graph) => Ok(Ok(graph)),
+        Err(Refused::Fault(fault)) => Ok(Err(fault)),
         Err(Refused::Memory) => Err(AllocError),
     }
 }
 
-fn from(src: u32, src_channel: u32, dst: u32, dst_channel: u32) -> Connection {
-    Connection {
-        src: Uid(src),
-        src_channel,
-        dst: Uid(dst),
-        dst_channel,
+// The text, and none where the graph is too large.
+fn write(alloc: Global, graph: &Graph) -> Result<Option<Vec<u8>>, AllocError> {
+    if graph.nodes.len() > 512 || graph.connections.len() > 8192 {
+        return Ok(None);
+    }
+    Ok(Some(write_graph(alloc, graph)?))
+}
+
+fn shape(part: Part, index: u32, member: Member) -> RecordFault {
+    RecordFault::Shape {
+        place: Place {
+            part,
+            index,
+            member,
+        },
     }
 }
 
-fn push(nodes: &mut List<Node>, uid: u32, kind: Kind) -> Result<(), AllocError> {
-    nodes.push(Node {
-        uid: Uid(uid),
-        kind,
+fn limit(part: Part, index: u32, member: Member, got: i128) -> RecordFault {
+    RecordFault::Limit {
+        place: Place {
+            part,
+            index,
+            member,
+        },
+        got,
+    }
+}
+
+fn joined(src: u32, dst: u32) -> Connection {
+    Connection {
+        src: Uid(src),
+        src_channel: 0,
+        dst: Uid(dst),
+        dst_channel: 0,
+    }
+}
+
+fn graph_of(
+    alloc: Global,
+    kinds: Vec<Kind>,
+    connections: &[Connection],
+) -> Result<Graph, AllocError> {
+    let mut nodes = List::new(alloc);
+    let mut uid: u32 = 0;
+    for kind in kinds {
+        uid = uid.wrapping_add(1);
+        nodes.push(Node {
+            uid: Uid(uid),
+            kind,
+        })?;
+    }
+    Ok(Graph {
+        nodes,
+        connections: List::from_slice(alloc, connections)?,
     })
 }
 
+const STRAIGHT: &str =
+    r#"{"FILTERGRAPH":{"CONNECTION":[{"dstChannel":0,"dstFilter":2,"srcChannel":0,"srcFilter":1}],"FILTER":[{"channels":1,"kind":"input","uid":1},{"channels":1,"kind":"output","uid":2}]}}"#;
+
 #[test]
-fn reads_a_straight_connection(rt: HostRuntime) -> Result<(), Fail> {
+fn a_straight_connection_is_written_and_read_back(rt: HostRuntime) -> Result<(), Fail> {
     let alloc = rt.alloc();
-    let text =
-        r#"{"FILTERGRAPH":{"CONNECTION":[{"dstChannel":0,"dstFilter":2,"srcChannel":0,"srcFilter":1}],"FILTER":[{"channels":1,"kind":"input","uid":1},{"channels":1,"kind":"output","uid":2}]}}"#;
-    let graph = read(alloc, text)?.ok_or("no graph")?;
-    let mut nodes = List::new(alloc);
-    push(&mut nodes, 1, Kind::Input { channels: 1 })?;
-    push(&mut nodes, 2, Kind::Output { channels: 1 })?;
-    let connections = List::from_slice(alloc, &[from(1, 0, 2, 0)])?;
-    assert!(rt; graph == Graph { nodes, connections });
+    let kinds = vec![in alloc; Kind::Input { channels: 1 }, Kind::Output { channels: 1 }]?;
+    let graph = graph_of(alloc, kinds, &[joined(1, 2)])?;
+    let bytes = write(alloc, &graph)?.ok_or("too large")?;
+    assert!(rt; bytes.as_slice() == STRAIGHT.as_bytes());
+    assert!(rt; read(alloc, &bytes)? == Ok(graph));
     Ok(())
 }
 
 #[test]
-fn reads_a_gain_and_ignores_other_members(rt: HostRuntime) -> Result<(), Fail> {
+fn every_kind_is_written_and_read_back(rt: HostRuntime) -> Result<(), Fail> {
     let alloc = rt.alloc();
-    let text = r#"{"name":"half","FILTERGRAPH":{"version":[1,2.5,null],
-        "FILTER":[{"uid":1,"kind":"input","channels":2},
-            {"uid":3,"kind":"gain","channels":2,"gain":32768,"samples":-1.5},
-            {"uid":2,"kind":"mixer","channels":2,"kind":"output"}],
-        "CONNECTION":[{"srcFilter":1,"srcChannel":1,"dstFilter":3,"dstChannel":0,"color":{"red":1}},
-            {"srcFilter":3,"srcChannel":0,"dstFilter":2,"dstChannel":1}]}}"#;
-    let graph = read(alloc, text)?.ok_or("no graph")?;
-    let mut nodes = List::new(alloc);
-    push(&mut nodes, 1, Kind::Input { channels: 2 })?;
-    push(
-        &mut nodes,
-        3,
-        Kind::Gain {
-            channels: 2,
-            gain: 32768,
+    let kinds = vec![in alloc;
+        Kind::Input {
+            channels: 4294967295
         },
-    )?;
-    push(&mut nodes, 2, Kind::Output { channels: 2 })?;
-    let connections = List::from_slice(alloc, &[from(1, 1, 3, 0), from(3, 0, 2, 1)])?;
-    assert!(rt; graph == Graph { nodes, connections });
+        Kind::Output { channels: 0 },
+        Kind::Gain {
+            channels: 1,
+            gain: -2147483648
+        },
+        Kind::Mixer {
+            ins: 2,
+            outs: 1,
+            gains: List::from_slice(alloc, &[65536, -1])?
+        },
+        Kind::Fir {
+            channels: 1,
+            taps: List::from_slice(alloc, &[1, 2, 2147483647])?,
+            shift: 2,
+            latency: 1,
+        },
+        Kind::Biquad {
+            channels: 1,
+            b0: 1,
+            b1: -2,
+            b2: 3,
+            a1: -4,
+            a2: 5,
+            shift: 14,
+            bits: 32,
+        },
+        Kind::Limiter {
+            channels: 1,
+            threshold: 18446744073709551615,
+            lookahead: 8
+        },
+        Kind::Delay {
+            channels: 1,
+            samples: 100
+        },
+        Kind::Insert {
+            channels: 1,
+            samples: 5
+        },
+    ]?;
+    let graph = graph_of(alloc, kinds, &[])?;
+    let bytes = write(alloc, &graph)?.ok_or("too large")?;
+    let text =
+        r#"{"FILTERGRAPH":{"CONNECTION":[],"FILTER":[{"channels":4294967295,"kind":"input","uid":1},{"channels":0,"kind":"output","uid":2},{"channels":1,"gain":-2147483648,"kind":"gain","uid":3},{"gains":[65536,-1],"ins":2,"kind":"mixer","outs":1,"uid":4},{"channels":1,"kind":"fir","latency":1,"shift":2,"taps":[1,2,2147483647],"uid":5},{"a1":-4,"a2":5,"b0":1,"b1":-2,"b2":3,"bits":32,"channels":1,"kind":"biquad","shift":14,"uid":6},{"channels":1,"kind":"limiter","lookahead":8,"threshold":18446744073709551615,"uid":7},{"channels":1,"kind":"delay","samples":100,"uid":8},{"channels":1,"kind":"insert","samples":5,"uid":9}]}}"#;
+    assert!(rt; bytes.as_slice() == text.as_bytes());
+    assert!(rt; read(alloc, &bytes)? == Ok(graph));
     Ok(())
 }
 
 #[test]
-fn refuses_what_is_no_graph_of_today(rt: HostRuntime) -> Result<(), Fail> {
+fn other_members_are_ignored_and_the_last_of_equal_names_counts(
+    rt: HostRuntime,
+) -> Result<(), Fail> {
     let alloc = rt.alloc();
-    let texts = [
-        r#"{"#,
-        r#"{"FILTERGRAPH":[]}"#,
-        r#"{"FILTERGRAPH":{"FILTER":[{"uid":1,"kind":"input","channels":1},{"uid":2,"kind":"output","channels":1}],"CONNECTION":null}}"#,
-        r#"{"FILTERGRAPH":{"FILTER":[{"uid":1,"kind":"input","channels":1}]}}"#,
-        r#"{"FILTERGRAPH":{"FILTER":[{"uid":1,"kind":"input","channels":1},{"uid":2,"kind":"output","channels":1},{"uid":3,"kind":"reverb","channels":1}]}}"#,
-        r#"{"FILTERGRAPH":{"FILTER":[{"uid":1,"kind":"input","channels":1},{"uid":2,"kind":"output","channels":1},{"uid":3,"kind":"mixer","ins":1,"outs":1,"gains":[65536]}]}}"#,
-        r#"{"FILTERGRAPH":{"FILTER":[{"uid":-1,"kind":"input","channels":1},{"uid":2,"kind":"output","channels":1}]}}"#,
-        r#"{"FILTERGRAPH":{"FILTER":[{"uid":0,"kind":"input","channels":1},{"uid":2,"kind":"output","channels":1}]}}"#,
-        r#"{"FILTERGRAPH":{"FILTER":[{"uid":2,"kind":"input","channels":1},{"uid":2,"kind":"output","channels":1}]}}"#,
-        r#"{"FILTERGRAPH":{"FILTER":[{"uid":1,"kind":"input","channels":1.0},{"uid":2,"kind":"output","channels":1}]}}"#,
-        r#"{"FILTERGRAPH":{"FILTER":[{"uid":1,"kind":"input","channels":33},{"uid":2,"kind":"output","channels":1}]}}"#,
-        r#"{"FILTERGRAPH":{"FILTER":[{"uid":1,"kind":"input","channels":1},{"uid":3,"kind":"gain","channels":1,"gain":65537},{"uid":2,"kind":"output","channels":1}]}}"#,
-        r#"{"FILTERGRAPH":{"FILTER":[{"uid":2,"kind":"output","channels":1},{"uid":1,"kind":"input","channels":1}],"CONNECTION":[{"srcFilter":1,"srcChannel":0,"dstFilter":2,"dstChannel":0}]}}"#,
-        r#"{"FILTERGRAPH":{"FILTER":[{"uid":1,"kind":"input","channels":2},{"uid":2,"kind":"output","channels":1}],"CONNECTION":[{"srcFilter":1,"srcChannel":1,"dstFilter":2,"dstChannel":1}]}}"#,
-        r#"{"FILTERGRAPH":{"FILTER":[{"uid":1,"kind":"input","channels":2},{"uid":2,"kind":"output","channels":1}],"CONNECTION":[{"srcFilter":1,"srcChannel":0,"dstFilter":2,"dstChannel":0},{"srcFilter":1,"srcChannel":1,"dstFilter":2,"dstChannel":0}]}}"#,
+    let text = r#"{"FILTERGRAPH":null,"name":"half","FILTERGRAPH":{"version":[1,2.5,1e-400,null],
+        "FILTER":[{"uid":-1,"uid":1,"kind":"reverb","kind":"input","channels":1,"samples":-1.5},
+            {"uid":2,"channels":1,"kind":"output","more":{"FILTER":[]}}]},"last":0e999999999999}"#;
+    let kinds = vec![in alloc; Kind::Input { channels: 1 }, Kind::Output { channels: 1 }]?;
+    let graph = graph_of(alloc, kinds, &[])?;
+    assert!(rt; read(alloc, text.as_bytes())? == Ok(graph));
+    Ok(())
+}
+
+#[test]
+fn what_serde_json_does_not_read_is_no_text(rt: HostRuntime) -> Result<(), Fail> {
+    let alloc = rt.alloc();
+    let texts: [&[u8]; 8] = [
+        b"",
+        b"{",
+        b"{}{}",
+        b"{\"a\":1e400}",
+        b"{\"a\":\"\\ud800\"}",
+        b"{\"a\":\"\xff\"}",
+        b"{\"a\":\"\t\"}",
+        b"\xef\xbb\xbf{}",
     ];
     for text in texts {
-        assert!(rt; read(alloc, text)?.is_none(), "{text}");
+        assert!(rt; read(alloc, text)? == Err(RecordFault::Text));
+    }
+    Ok(())
+}
+
+// An object whose member is ignored, and nests so many arrays.
+fn nested(alloc: Global, arrays: usize) -> Result<String, AllocError> {
+    let mut text = String::from_str(alloc, "{\"FILTERGRAPH\":{\"FILTER\":[]},\"deep\":")?;
+    for _ in 0..arrays {
+        text.push_str("[")?;
+    }
+    for _ in 0..arrays {
+        text.push_str("]")?;
+    }
+    text.push_str("}")?;
+    Ok(text)
+}
+
+#[test]
+fn at_most_127_levels_are_read(rt: HostRuntime) -> Result<(), Fail> {
+    let alloc = rt.alloc();
+    let deepest = nested(alloc, 126)?;
+    assert!(rt; read(alloc, deepest.as_bytes())?.is_ok());
+    let deeper = nested(alloc, 127)?;
+    assert!(rt; read(alloc, deeper.as_bytes())? == Err(RecordFault::Text));
+    Ok(())
+}
+
+#[test]
+fn each_fault_has_its_place(rt: HostRuntime) -> Result<(), Fail> {
+    let alloc = rt.alloc();
+    let cases = [
+        (r#"[]"#, shape(Part::Top, 0, Member::Graph)),
+        (r#"{"FILTERGRAPH":[]}"#, shape(Part::Top, 0, Member::Graph)),
+        (
+            r#"{"FILTERGRAPH":{"CONNECTION":7}}"#,
+            shape(Part::Top, 0, Member::Filter),
+        ),
+        (
+            r#"{"FILTERGRAPH":{"FILTER":[7],"CONNECTION":null}}"#,
+            shape(Part::Top, 0, Member::Connection),
+        ),
+        (
+            r#"{"FILTERGRAPH":{"CONNECTION":[7],"FILTER":[7]}}"#,
+            shape(Part::Filter, 0, Member::Item),
+        ),
+        (
+            r#"{"FILTERGRAPH":{"FILTER":[{"uid":1,"kind":"input","channels":1},{"uid":2,"kind":"reverb"}]}}"#,
+            shape(Part::Filter, 1, Member::Kind),
+        ),
+        (
+            r#"{"FILTERGRAPH":{"FILTER":[{"kind":"reverb","uid":-1}],"CONNECTION":[7]}}"#,
+            limit(Part::Filter, 0, Member::Uid, -1),
+        ),
+        (
+            r#"{"FILTERGRAPH":{"FILTER":[],"CONNECTION":[{"dstChannel":-1,"dstFilter":4294967296,"srcChannel":0,"srcFilter":1}]}}"#,
+            limit(Part::Link, 0, Member::DstFilter, 4294967296),
+        ),
+    ];
+    for (text, fault) in cases {
+        assert!(rt; read(alloc, text.as_bytes())? == Err(fault), "{text}");
+    }
+    Ok(())
+}
+
+// The fault of one node with these members beside its uid.
+fn fault_of(alloc: Global, members: &str) -> Result<Option<RecordFault>, AllocError> {
+    let text = format!(in alloc; "{{\"FILTERGRAPH\":{{\"FILTER\":[{{\"uid\":1,{members}}}]}}}}")?;
+    Ok(read(alloc, text.as_bytes())?.err())
+}
+
+#[test]
+fn a_number_that_is_not_whole_has_another_form(rt: HostRuntime) -> Result<(), Fail> {
+    let alloc = rt.alloc();
+    let shaped = Some(shape(Part::Filter, 0, Member::Gain));
+    let others = [
+        "-0",
+        "1.0",
+        "1e2",
+        "18446744073709551616",
+        "-9223372036854775809",
+        "\"1\"",
+        "null",
+    ];
+    for number in others {
+        let members = format!(in alloc; "\"kind\":\"gain\",\"channels\":1,\"gain\":{number}")?;
+        assert!(rt; fault_of(alloc, &members)? == shaped, "{number}");
+    }
+    let whole = [
+        ("9223372036854775808", 9223372036854775808),
+        ("18446744073709551615", 18446744073709551615),
+        ("-9223372036854775808", -9223372036854775808),
+        ("2147483648", 2147483648),
+        ("-2147483649", -2147483649),
+    ];
+    for (number, got) in whole {
+        let members = format!(in alloc; "\"kind\":\"gain\",\"channels\":1,\"gain\":{number}")?;
+        let fault = limit(Part::Filter, 0, Member::Gain, got);
+        assert!(rt; fault_of(alloc, &members)? == Some(fault), "{number}");
     }
     Ok(())
 }
 
 #[test]
-fn reads_what_is_just_in_range(rt: HostRuntime) -> Result<(), Fail> {
+fn the_first_bad_member_decides(rt: HostRuntime) -> Result<(), Fail> {
+    let alloc = rt.alloc();
+    let cases = [
+        (
+            r#""kind":"fir","channels":1,"taps":[0,2147483648,null],"shift":-1"#,
+            limit(Part::Filter, 0, Member::Taps, 2147483648),
+        ),
+        (
+            r#""kind":"mixer","ins":1,"outs":1,"gains":[null,2147483648]"#,
+            shape(Part::Filter, 0, Member::Gains),
+        ),
+        (
+            r#""kind":"limiter","channels":1,"threshold":-1,"lookahead":-2"#,
+            limit(Part::Filter, 0, Member::Threshold, -1),
+        ),
+        (
+            r#""kind":"biquad","channels":1,"b0":1,"b1":1,"a1":0.5,"a2":1,"shift":1,"bits":16"#,
+            shape(Part::Filter, 0, Member::B2),
+        ),
+        (
+            r#""kind":"delay","samples":1"#,
+            shape(Part::Filter, 0, Member::Channels),
+        ),
+    ];
+    for (members, fault) in cases {
+        assert!(rt; fault_of(alloc, members)? == Some(fault), "{members}");
+    }
+    Ok(())
+}
+
+// So many records that are no objects.
+fn zeros(alloc: Global, count: usize) -> Result<String, AllocError> {
+    let mut text = String::from_str(alloc, "0")?;
+    for _ in 1..count {
+        text.push_str(",0")?;
+    }
+    Ok(text)
+}
+
+#[test]
+fn too_many_records_come_before_their_forms(rt: HostRuntime) -> Result<(), Fail> {
+    let alloc = rt.alloc();
+    let nodes = zeros(alloc, 512)?;
+    let text = format!(in alloc; "{{\"FILTERGRAPH\":{{\"FILTER\":[{nodes}]}}}}")?;
+    let fault = shape(Part::Filter, 0, Member::Item);
+    assert!(rt; read(alloc, text.as_bytes())? == Err(fault));
+    let nodes = zeros(alloc, 513)?;
+    let text = format!(in alloc; "{{\"FILTERGRAPH\":{{\"FILTER\":[{nodes}],\"CONNECTION\":7}}}}")?;
+    let fault = limit(Part::Top, 0, Member::Filter, 513);
+    assert!(rt; read(alloc, text.as_bytes())? == Err(fault));
+    let links = zeros(alloc, 8193)?;
+    let text = format!(in alloc;
+        "{{\"FILTERGRAPH\":{{\"FILTER\":[0],\"CONNECTION\":[{links}]}}}}"
+    )?;
+    let fault = limit(Part::Top, 0, Member::Connection, 8193);
+    assert!(rt; read(alloc, text.as_bytes())? == Err(fault));
+    Ok(())
+}
+
+#[test]
+fn texts_of_faults(rt: HostRuntime) -> Result<(), Fail> {
     let alloc = rt.alloc();
     let texts = [
-        r#"{"FILTERGRAPH":{"FILTER":[{"uid":1,"kind":"input","channels":1},{"uid":2,"kind":"output","channels":32}]}}"#,
-        r#"{"FILTERGRAPH":{"FILTER":[{"uid":1,"kind":"input","channels":1},{"uid":3,"kind":"gain","channels":1,"gain":-65536},{"uid":2147483647,"kind":"output","channels":1}],"CONNECTION":[]}}"#,
+        (RecordFault::Text, "no JSON text"),
+        (
+            shape(Part::Top, 0, Member::Graph),
+            "wrong form at top 0 FILTERGRAPH",
+        ),
+        (
+            shape(Part::Filter, 3, Member::Item),
+            "wrong form at filter 3 record",
+        ),
+        (
+            limit(Part::Link, 12, Member::SrcFilter, -1),
+            "-1 is out of range at connection 12 srcFilter",
+        ),
     ];
-    for text in texts {
-        assert!(rt; read(alloc, text)?.is_some(), "{text}");
+    for (fault, text) in texts {
+        assert!(rt; format!(in alloc; "{fault}")?.as_str() == text, "{text}");
     }
     Ok(())
 }

@@ -1,5 +1,6 @@
 pub mod UnitLemmas
 pub mod SendLemmas
+pub mod CarryLemmas
 pub mod ResidualLemmas
 pub mod TightLemmas
 pub mod SolveLemmas

@@ -1,8 +1,9 @@
 -- The beginning, one turn and the end of the solver's loop.
-use Rattle.std.proofs.Common.{◌≡◌, ◌≢◌, ℕ, zero, suc, ◌+◌, ◌*◌, ◌<◌, ◌≤◌, ◌^◌, ℤ, pos, negsuc, ◌+ℤ◌, ◌-ℤ◌, neg_ℤ, ◌≤ℤ◌, ◌<ℤ◌, List, [], ◌∷◌, ◌++◌, length, set, map, replicate, Some, inl, inr, refl, sym, ap, subst, ◌∙◌, arith, slice_get, slice_index, cond, nat_eq, Bool, true, false, get_or-set_same, get_or-set_other, length-set, take, drop}
+use Rattle.std.proofs.Common.{◌≡◌, ◌≢◌, ℕ, zero, suc, ◌+◌, ◌*◌, ◌<◌, ◌≤◌, ◌^◌, ℤ, pos, negsuc, ◌+ℤ◌, ◌-ℤ◌, neg_ℤ, ◌≤ℤ◌, ◌<ℤ◌, List, [], ◌∷◌, ◌++◌, length, set, map, replicate, Some, inl, inr, refl, sym, ap, subst, ◌∙◌, arith, slice_get, slice_index, cond, nat_eq, Bool, true, false, get_or-set_same, get_or-set_other, length-set, take, drop, min, unsigned_abs, to_z, w64}
+use Rattle.std.proofs.Math.Nat.{min-le_left, min-le_right, le-min}
 use Rattle.std.proofs.Math.Seq.{take-append_seam}
 use Rattle.std.specs.List.{Contains, All}
-use Rattle.std.proofs.lemmas.Int.{ints}
+use Rattle.std.proofs.lemmas.Int.{ints, to_z_pos}
 use Rattle.std.proofs.lemmas.Bool.{cases_eq}
 use Rattle.std.proofs.lemmas.Bool.Decides.{nat_tests}
 use Rattle.std.proofs.lemmas.List.{length-replicate}
@@ -13,10 +14,10 @@ use Rattle.min_cost_flow.specs.declared.network.Arc.{Arc}
 use Rattle.min_cost_flow.specs.declared.network.Step.{Step}
 use Rattle.min_cost_flow.specs.declared.network.Network.{Network}
 use Rattle.min_cost_flow.specs.Flow.{IsNetwork, IsTight, MeetsNeeds, HasNoPositiveCycle, length_of, units_where, total_of}
-use Rattle.min_cost_flow.specs.Residual.{forward, IsMove, more, fewer, net_of, one_at, HasNoNegativeResidualCycle}
-use Rattle.min_cost_flow.specs.Solve.{IsMeeting, wanted, from_zero}
+use Rattle.min_cost_flow.specs.Residual.{forward, IsMove, more, fewer, net_of, units_at, HasNoNegativeResidualCycle}
+use Rattle.min_cost_flow.specs.Solve.{IsMeeting, wanted}
 use Rattle.shortest_paths.specs.declared.edges.Edge.{Edge}
-use Rattle.shortest_paths.specs.Walks.{IsWalk, IsWithin, number_of, cost_of}
+use Rattle.shortest_paths.specs.Walks.{IsWalk, IsWithin, number_of, cost_of, from_zero}
 
 -- ---- the empty flow
 
@@ -94,102 +95,143 @@ IsMeeting-first net flow n network len is = record {
     none : (k : ℕ) → slice_index flow k ≡ 0
     none k = subst (λ x. slice_index x k ≡ 0) (sym is) (index_of_zeros n k)
 
--- ---- one unit
+-- ---- units that are sent
 
 total_of-set : (xs : List ℤ) (i : ℕ) (y : ℤ) → i < length xs → total_of (set xs i y) +ℤ number_of xs i ≡ total_of xs +ℤ y
 total_of-set [] i y l = absurd (omega arith)
 total_of-set (x ∷ xs) zero y l = omega (arith, ints)
 total_of-set (x ∷ xs) (suc i) y l = let ih = total_of-set xs i y (omega arith) in omega (arith, ints)
 
-one_at-same : (v : ℕ) → one_at v v ≡ 1
-one_at-same v = grind (arith, nat_tests)
+units_at-same : (n v : ℕ) → units_at n v v ≡ n
+units_at-same n v = grind (arith, nat_tests)
 
-one_at-other : (w v : ℕ) → v ≢ w → one_at w v ≡ 0
-one_at-other w v ne = grind (arith, nat_tests)
+units_at-other : (n w v : ℕ) → v ≢ w → units_at n w v ≡ 0
+units_at-other n w v ne = grind (arith, nat_tests)
 
--- a number with one more at `from` and one less at `to`
-moved : (unmet : List ℤ) (from to : ℕ) → from < length unmet → to < length unmet → to ≢ from → (v : ℕ) →
-    number_of (set (set unmet from (number_of unmet from +ℤ pos 1)) to (number_of unmet to -ℤ pos 1)) v +ℤ pos (one_at to v) ≡ number_of unmet v +ℤ pos (one_at from v)
-moved unmet from to lf lt ne v =
+-- a number with n more at `from` and n less at `to`
+moved : (unmet : List ℤ) (from to n : ℕ) → from < length unmet → to < length unmet → to ≢ from → (v : ℕ) →
+    number_of (set (set unmet from (number_of unmet from +ℤ pos n)) to (number_of unmet to -ℤ pos n)) v +ℤ pos (units_at n to v) ≡ number_of unmet v +ℤ pos (units_at n from v)
+moved unmet from to n lf lt ne v =
     elim (cases_eq v to) [
       | inl at_to ↦
-          let a = subst (λ x. number_of (set (set unmet from (number_of unmet from +ℤ pos 1)) to (number_of unmet to -ℤ pos 1)) x ≡ number_of unmet to -ℤ pos 1) (sym at_to)
-          (get_or-set_same (set unmet from (number_of unmet from +ℤ pos 1)) to (number_of unmet to -ℤ pos 1) (pos 0) (let q = length-set unmet from (number_of unmet from +ℤ pos 1) in omega arith)) in
-          let b = subst (λ x. one_at to x ≡ 1) (sym at_to) (one_at-same to) in
-          let c = one_at-other from v (λ e. ne (sym at_to ∙ e)) in
+          let a = subst (λ x. number_of (set (set unmet from (number_of unmet from +ℤ pos n)) to (number_of unmet to -ℤ pos n)) x ≡ number_of unmet to -ℤ pos n) (sym at_to)
+          (get_or-set_same (set unmet from (number_of unmet from +ℤ pos n)) to (number_of unmet to -ℤ pos n) (pos 0) (let q = length-set unmet from (number_of unmet from +ℤ pos n) in omega arith)) in
+          let b = subst (λ x. units_at n to x ≡ n) (sym at_to) (units_at-same n to) in
+          let c = units_at-other n from v (λ e. ne (sym at_to ∙ e)) in
           let d = ap (number_of unmet) at_to in
           omega (arith, ints)
       | inr not_to ↦
-          let a = get_or-set_other (set unmet from (number_of unmet from +ℤ pos 1)) to v (number_of unmet to -ℤ pos 1) (pos 0) not_to in
-          let b = one_at-other to v not_to in
+          let a = get_or-set_other (set unmet from (number_of unmet from +ℤ pos n)) to v (number_of unmet to -ℤ pos n) (pos 0) not_to in
+          let b = units_at-other n to v not_to in
           elim (cases_eq v from) [
             | inl at_from ↦
-                let c = subst (λ x. number_of (set unmet from (number_of unmet from +ℤ pos 1)) x ≡ number_of unmet from +ℤ pos 1) (sym at_from) (get_or-set_same unmet from (number_of unmet from +ℤ pos 1) (pos 0) lf) in
-                let d = subst (λ x. one_at from x ≡ 1) (sym at_from) (one_at-same from) in
+                let c = subst (λ x. number_of (set unmet from (number_of unmet from +ℤ pos n)) x ≡ number_of unmet from +ℤ pos n) (sym at_from) (get_or-set_same unmet from (number_of unmet from +ℤ pos n) (pos 0) lf) in
+                let d = subst (λ x. units_at n from x ≡ n) (sym at_from) (units_at-same n from) in
                 let e = ap (number_of unmet) at_from in
                 omega (arith, ints)
             | inr not_from ↦
-                let c = get_or-set_other unmet from v (number_of unmet from +ℤ pos 1) (pos 0) not_from in
-                let d = one_at-other from v not_from in
+                let c = get_or-set_other unmet from v (number_of unmet from +ℤ pos n) (pos 0) not_from in
+                let d = units_at-other n from v not_from in
                 omega (arith, ints)
           ]
     ]
 
-from_zero-more : (z : ℤ) → z <ℤ pos 0 → from_zero (z +ℤ pos 1) ≡ from_zero z
-from_zero-more (pos n) h = absurd (omega (arith, ints))
-from_zero-more (negsuc zero) h = refl
-from_zero-more (negsuc (suc n)) h = by (negsuc (suc n) +ℤ pos 1) (omega (arith, ints))
+from_zero-below : (z : ℤ) → z ≤ℤ pos 0 → from_zero z ≡ 0
+from_zero-below (pos n) h = omega (arith, ints)
+from_zero-below (negsuc n) h = refl
+
+from_zero-less : (z : ℤ) (n : ℕ) → pos n ≤ℤ z → from_zero (z -ℤ pos n) + n ≡ from_zero z
+from_zero-less (pos m) n h = by (pos m -ℤ pos n) (omega (arith, ints)) (omega (arith, ints))
   where
-    by : (y : ℤ) → y <ℤ pos 0 → from_zero y ≡ 0
-    by (pos m) l = absurd (omega (arith, ints))
-    by (negsuc m) l = refl
+    by : (y : ℤ) → pos 0 ≤ℤ y → y +ℤ pos n ≡ pos m → from_zero y + n ≡ m
+    by (pos k) l e = omega (arith, ints)
+    by (negsuc k) l e = absurd (omega (arith, ints))
+from_zero-less (negsuc m) n h = absurd (omega (arith, ints))
 
-from_zero-less : (z : ℤ) → pos 0 <ℤ z → from_zero (z -ℤ pos 1) + 1 ≡ from_zero z
-from_zero-less (pos n) h = by (pos n -ℤ pos 1) (omega (arith, ints)) (omega (arith, ints))
-  where
-    by : (y : ℤ) → pos 0 ≤ℤ y → y +ℤ pos 1 ≡ pos n → from_zero y + 1 ≡ n
-    by (pos m) l e = omega (arith, ints)
-    by (negsuc m) l e = absurd (omega (arith, ints))
-from_zero-less (negsuc n) h = absurd (omega (arith, ints))
+-- what two points can at most exchange is within the unmet need of each
+abs_below : (z : ℤ) (n : ℕ) → z <ℤ pos 0 → n ≤ unsigned_abs z → z ≤ℤ neg_ℤ (pos n)
+abs_below (pos m) n h l = absurd (omega (arith, ints))
+abs_below (negsuc m) n h l = omega (arith, ints)
 
-module _ (net : Network) (flow : List ℕ) (unmet : List ℤ) (from to : ℕ) (m : IsMeeting net flow unmet)
-    (from_in : from < length unmet) (to_in : to < length unmet) (below : number_of unmet from <ℤ pos 0) (above : pos 0 <ℤ number_of unmet to) where
-  differ' : to ≢ from
-  differ' e = let q = ap (number_of unmet) e in omega (arith, ints)
+abs_above : (z : ℤ) (n : ℕ) → pos 0 <ℤ z → n ≤ unsigned_abs z → pos n ≤ℤ z
+abs_above (pos m) n h l = omega (arith, ints)
+abs_above (negsuc m) n h l = absurd (omega (arith, ints))
 
-  unmet' : List ℤ
-  unmet' = set (set unmet from (number_of unmet from +ℤ pos 1)) to (number_of unmet to -ℤ pos 1)
+abs_some : (z : ℤ) → z ≢ pos 0 → 0 < unsigned_abs z
+abs_some (pos zero) h = absurd (h refl)
+abs_some (pos (suc m)) h = omega arith
+abs_some (negsuc m) h = omega arith
 
-  at_to' : number_of (set unmet from (number_of unmet from +ℤ pos 1)) to ≡ number_of unmet to
-  at_to' = get_or-set_other unmet from to (number_of unmet from +ℤ pos 1) (pos 0) differ'
+-- n units can go from one point to another within the unmet needs of both
+pub record IsWithinNeeds (unmet : List ℤ) (from to n : ℕ) : Type 0 where
+  pub from_in : from < length unmet
+  pub to_in : to < length unmet
+  pub apart : to ≢ from
+  pub below : number_of unmet from ≤ℤ neg_ℤ (pos n)
+  pub above : pos n ≤ℤ number_of unmet to
 
-  pub wanted_falls : wanted (set (set unmet from (number_of unmet from +ℤ pos 1)) to (number_of unmet to -ℤ pos 1)) + 1 ≡ wanted unmet
+module _ (unmet : List ℤ) (from to most : ℕ) (f : (from < length unmet) × (number_of unmet from <ℤ pos 0)) (t : (to < length unmet) × (pos 0 <ℤ number_of unmet to))
+    (is : most ≡ min (unsigned_abs (number_of unmet from)) (unsigned_abs (number_of unmet to))) where
+  pub most_some : 0 < most
+  most_some = let below = f.1 in let above = t.1 in
+      subst (λ x. 0 < x) (sym is) (le-min (abs_some (number_of unmet from) (λ e. omega (arith, ints))) (abs_some (number_of unmet to) (λ e. omega (arith, ints))))
+
+  -- what is at most the unmet need of both is within them
+  pub within_needs : (n : ℕ) → n ≤ most → IsWithinNeeds unmet from to n
+  within_needs n l = record {
+    from_in = f.0;
+    to_in = t.0;
+    apart = λ e. let q = ap (number_of unmet) e in let below = f.1 in let above = t.1 in omega (arith, ints);
+    below = abs_below (number_of unmet from) n f.1 (let q = min-le_left (unsigned_abs (number_of unmet from)) (unsigned_abs (number_of unmet to)) in omega arith);
+    above = abs_above (number_of unmet to) n t.1 (let q = min-le_right (unsigned_abs (number_of unmet from)) (unsigned_abs (number_of unmet to)) in omega arith);
+  }
+
+pub within_needs_of : (net : Network) (flow : List ℕ) (unmet : List ℤ) (from to most n : ℕ) → IsMeeting net flow unmet → from < net.points → to < net.points →
+    (number_of unmet from <ℤ pos 0) × (pos 0 <ℤ number_of unmet to) → most ≡ min (unsigned_abs (number_of unmet from)) (unsigned_abs (number_of unmet to)) → n ≤ most → IsWithinNeeds unmet from to n
+within_needs_of net flow unmet from to most n m lf lt both is le = let each = m.unmet_each in within_needs unmet from to most (omega arith, both.0) (omega arith, both.1) is n le
+
+module _ (net : Network) (flow : List ℕ) (unmet : List ℤ) (from to n : ℕ) (m : IsMeeting net flow unmet) (x : IsWithinNeeds unmet from to n) where
+  at_to' : number_of (set unmet from (number_of unmet from +ℤ pos n)) to ≡ number_of unmet to
+  at_to' = get_or-set_other unmet from to (number_of unmet from +ℤ pos n) (pos 0) x.apart
+
+  pub wanted_falls : wanted (set (set unmet from (number_of unmet from +ℤ pos n)) to (number_of unmet to -ℤ pos n)) + n ≡ wanted unmet
   wanted_falls =
-      let first = sum_by-set from_zero unmet from (number_of unmet from +ℤ pos 1) (pos 0) from_in in
-      let len = length-set unmet from (number_of unmet from +ℤ pos 1) in
-      let second = sum_by-set from_zero (set unmet from (number_of unmet from +ℤ pos 1)) to (number_of unmet to -ℤ pos 1) (pos 0) (omega arith) in
+      let first = sum_by-set from_zero unmet from (number_of unmet from +ℤ pos n) (pos 0) x.from_in in
+      let low = x.below in
+      let to_in = x.to_in in
+      let len = length-set unmet from (number_of unmet from +ℤ pos n) in
+      let second = sum_by-set from_zero (set unmet from (number_of unmet from +ℤ pos n)) to (number_of unmet to -ℤ pos n) (pos 0) (omega arith) in
       let same = ap from_zero at_to' in
-      let a = from_zero-more (number_of unmet from) below in
-      let b = from_zero-less (number_of unmet to) above in
+      let a = from_zero-below (number_of unmet from) (omega (arith, ints)) in
+      let a' = from_zero-below (number_of unmet from +ℤ pos n) (omega (arith, ints)) in
+      let b = from_zero-less (number_of unmet to) n x.above in
       omega arith
 
-  pub IsMeeting-next : (new : List ℕ) → IsNetwork net → length new ≡ length flow →
-      ((v : ℕ) → net_of net.arcs new v +ℤ pos (one_at from v) ≡ net_of net.arcs flow v +ℤ pos (one_at to v)) →
-      HasNoNegativeResidualCycle net.arcs new → ((k : ℕ) → slice_index new k ≤ slice_index flow k + net.points) →
-      IsMeeting net new (set (set unmet from (number_of unmet from +ℤ pos 1)) to (number_of unmet to -ℤ pos 1))
-  IsMeeting-next new network len sent cycles bound = record {
+  -- the units of one augmentation leave the counts on the arcs small
+  pub room_for : (k : ℕ) → slice_index flow k + n < 2 ^ 63
+  room_for k = let a = m.room k in let b = wanted_falls in omega arith
+
+  pub fits : to_z w64 n ≡ pos n
+  fits = to_z_pos w64 n (let a = room_for 0 in omega arith)
+
+  pub IsMeeting-next : (new : List ℕ) → length new ≡ length flow →
+      ((v : ℕ) → net_of net.arcs new v +ℤ pos (units_at n from v) ≡ net_of net.arcs flow v +ℤ pos (units_at n to v)) →
+      HasNoNegativeResidualCycle net.arcs new → ((k : ℕ) → slice_index new k ≤ slice_index flow k + n) →
+      IsMeeting net new (set (set unmet from (number_of unmet from +ℤ pos n)) to (number_of unmet to -ℤ pos n))
+  IsMeeting-next new len sent cycles bound = record {
     units_each = len ∙ m.units_each;
-    unmet_each = length-set (set unmet from (number_of unmet from +ℤ pos 1)) to _ ∙ length-set unmet from _ ∙ m.unmet_each;
-    unmet_is = λ v l. let a = sent v in let b = moved unmet from to from_in to_in differ' v in let c = m.unmet_is v l in omega (arith, ints);
+    unmet_each = length-set (set unmet from (number_of unmet from +ℤ pos n)) to _ ∙ length-set unmet from _ ∙ m.unmet_each;
+    unmet_is = λ v l. let a = sent v in let b = moved unmet from to n x.from_in x.to_in x.apart v in let c = m.unmet_is v l in omega (arith, ints);
     balanced =
-        let a = total_of-set unmet from (number_of unmet from +ℤ pos 1) from_in in
-        let len' = length-set unmet from (number_of unmet from +ℤ pos 1) in
-        let b = total_of-set (set unmet from (number_of unmet from +ℤ pos 1)) to (number_of unmet to -ℤ pos 1) (omega arith) in
+        let a = total_of-set unmet from (number_of unmet from +ℤ pos n) x.from_in in
+        let to_in = x.to_in in
+        let len' = length-set unmet from (number_of unmet from +ℤ pos n) in
+        let b = total_of-set (set unmet from (number_of unmet from +ℤ pos n)) to (number_of unmet to -ℤ pos n) (omega arith) in
         let c = m.balanced in
         let d = at_to' in
         omega (arith, ints);
     cycles = cycles;
-    room = λ k. let a = bound k in let b = m.room k in let c = wanted_falls in let d = network.few_points in omega arith;
+    room = λ k. let a = bound k in let b = m.room k in let c = wanted_falls in omega arith;
   }
 
 -- ---- the end

@@ -1,9 +1,9 @@
--- What one unit more or fewer on an arc changes.
-use Rattle.std.proofs.Common.{◌≡◌, ℕ, zero, suc, ◌+◌, ◌-◌, ◌<◌, pos, ◌+ℤ◌, List, [], ◌∷◌, length, set, Some, subst, arith, slice_get, slice_index, cond, Bool, true, false, nat_eq}
+-- What units more or fewer on an arc change.
+use Rattle.std.proofs.Common.{◌≡◌, ℕ, zero, suc, ◌+◌, ◌-◌, ◌<◌, ◌≤◌, pos, ◌+ℤ◌, List, [], ◌∷◌, length, set, Some, subst, arith, slice_get, slice_index, cond, Bool, true, false, nat_eq}
 use Rattle.std.proofs.lemmas.Int.{ints}
 use Rattle.min_cost_flow.specs.declared.network.Arc.{Arc}
 use Rattle.min_cost_flow.specs.Flow.{units_where}
-use Rattle.min_cost_flow.specs.Residual.{net_of, one_at}
+use Rattle.min_cost_flow.specs.Residual.{net_of, units_at}
 
 -- the units on the arcs that pass a test, where one arc gets g units in the place of those that it had
 units-set : (test : Arc → Bool) (arcs : List Arc) (flow : List ℕ) (k : ℕ) (a : Arc) (g : ℕ) → slice_get arcs k ≡ Some a → k < length flow →
@@ -15,24 +15,24 @@ units-set test (b ∷ arcs) (f ∷ flow) zero a g at l =
     subst (λ c. cond (test b) g 0 + units_where test arcs flow + cond (test c) f 0 ≡ cond (test b) f 0 + units_where test arcs flow + cond (test c) g 0) same (omega arith)
 units-set test (b ∷ arcs) (f ∷ flow) (suc k) a g at l = let ih = units-set test arcs flow k a g at (omega arith) in omega arith
 
-by_one : (b : Bool) (x y f : ℕ) → y + cond b f 0 ≡ x + cond b (f + 1) 0 → y ≡ x + cond b 1 0
-by_one true x y f h = omega arith
-by_one false x y f h = omega arith
+by_more : (b : Bool) (x y f g : ℕ) → y + cond b f 0 ≡ x + cond b (f + g) 0 → y ≡ x + cond b g 0
+by_more true x y f g h = omega arith
+by_more false x y f g h = omega arith
 
-by_one_less : (b : Bool) (x y f : ℕ) → 0 < f → y + cond b f 0 ≡ x + cond b (f - 1) 0 → y + cond b 1 0 ≡ x
-by_one_less true x y f p h = omega arith
-by_one_less false x y f p h = omega arith
+by_fewer : (b : Bool) (x y f g : ℕ) → g ≤ f → y + cond b f 0 ≡ x + cond b (f - g) 0 → y + cond b g 0 ≡ x
+by_fewer true x y f g p h = omega arith
+by_fewer false x y f g p h = omega arith
 
-pub net-more : (arcs : List Arc) (flow : List ℕ) (k v : ℕ) (a : Arc) → slice_get arcs k ≡ Some a → k < length flow →
-    net_of arcs (set flow k (slice_index flow k + 1)) v +ℤ pos (one_at a.tail v) ≡ net_of arcs flow v +ℤ pos (one_at a.head v)
-net-more arcs flow k v a at l =
-    let ins = by_one (nat_eq a.head v) _ _ (slice_index flow k) (units-set (λ b. nat_eq b.head v) arcs flow k a (slice_index flow k + 1) at l) in
-    let outs = by_one (nat_eq a.tail v) _ _ (slice_index flow k) (units-set (λ b. nat_eq b.tail v) arcs flow k a (slice_index flow k + 1) at l) in
+pub net-more : (arcs : List Arc) (flow : List ℕ) (k v g : ℕ) (a : Arc) → slice_get arcs k ≡ Some a → k < length flow →
+    net_of arcs (set flow k (slice_index flow k + g)) v +ℤ pos (units_at g a.tail v) ≡ net_of arcs flow v +ℤ pos (units_at g a.head v)
+net-more arcs flow k v g a at l =
+    let ins = by_more (nat_eq a.head v) _ _ (slice_index flow k) g (units-set (λ b. nat_eq b.head v) arcs flow k a (slice_index flow k + g) at l) in
+    let outs = by_more (nat_eq a.tail v) _ _ (slice_index flow k) g (units-set (λ b. nat_eq b.tail v) arcs flow k a (slice_index flow k + g) at l) in
     omega (arith, ints)
 
-pub net-fewer : (arcs : List Arc) (flow : List ℕ) (k v : ℕ) (a : Arc) → slice_get arcs k ≡ Some a → k < length flow → 0 < slice_index flow k →
-    net_of arcs (set flow k (slice_index flow k - 1)) v +ℤ pos (one_at a.head v) ≡ net_of arcs flow v +ℤ pos (one_at a.tail v)
-net-fewer arcs flow k v a at l some =
-    let ins = by_one_less (nat_eq a.head v) _ _ (slice_index flow k) some (units-set (λ b. nat_eq b.head v) arcs flow k a (slice_index flow k - 1) at l) in
-    let outs = by_one_less (nat_eq a.tail v) _ _ (slice_index flow k) some (units-set (λ b. nat_eq b.tail v) arcs flow k a (slice_index flow k - 1) at l) in
+pub net-fewer : (arcs : List Arc) (flow : List ℕ) (k v g : ℕ) (a : Arc) → slice_get arcs k ≡ Some a → k < length flow → g ≤ slice_index flow k →
+    net_of arcs (set flow k (slice_index flow k - g)) v +ℤ pos (units_at g a.head v) ≡ net_of arcs flow v +ℤ pos (units_at g a.tail v)
+net-fewer arcs flow k v g a at l there =
+    let ins = by_fewer (nat_eq a.head v) _ _ (slice_index flow k) g there (units-set (λ b. nat_eq b.head v) arcs flow k a (slice_index flow k - g) at l) in
+    let outs = by_fewer (nat_eq a.tail v) _ _ (slice_index flow k) g there (units-set (λ b. nat_eq b.tail v) arcs flow k a (slice_index flow k - g) at l) in
     omega (arith, ints)

@@ -1,4 +1,4 @@
--- The residual network of a flow: the ways in which one unit more can be sent.
+-- The residual network of a flow: the ways in which units more can be sent.
 use Rattle.std.specs.Prelude.{◌≡◌, ℕ, ◌+◌, ◌-◌, ◌<◌, ◌==◌, if◌then◌else◌, ℤ, pos, ◌+ℤ◌, ◌-ℤ◌, neg_ℤ, List, true, false, slice_get, slice_index, Option, Some}
 use Rattle.std.specs.List.{Contains}
 use Rattle.shortest_paths.specs.declared.edges.Edge.{Edge}
@@ -31,13 +31,13 @@ pub record IsResidual (arcs : List Arc) (flow : List ℕ) (edges : List Edge) (s
 abbrev pub net_of : List Arc → List ℕ → ℕ → ℤ
 net_of arcs flow v = pos (units_in arcs flow v) -ℤ pos (units_out arcs flow v)
 
--- One unit at w, and none elsewhere.
-abbrev pub one_at : ℕ → ℕ → ℕ
-one_at w v = if w == v then 1 else 0
+-- So many units at w, and none elsewhere.
+abbrev pub units_at : ℕ → ℕ → ℕ → ℕ
+units_at units w v = if w == v then units else 0
 
--- The units on the arc of the step, after it.
-abbrev pub after_step : List ℕ → Step → ℕ
-after_step flow s = if s.back then slice_index flow s.arc - 1 else slice_index flow s.arc + 1
+-- What is on the arc of the step, after so many units took it.
+abbrev pub after_step : List ℕ → ℕ → Step → ℕ
+after_step flow units s = if s.back then slice_index flow s.arc - units else slice_index flow s.arc + units
 
 -- Along each edge that `last` names, the potential falls by just the cost: the reduced cost of a tree edge is 0.
 abbrev pub IsTreeTight : List Edge → List (Option ℕ) → (ℕ → ℤ) → Type 0

@@ -1,8 +1,9 @@
 -- What a search in the residual network of a flow gives. No public clause cites this.
-use Rattle.std.specs.Prelude.{◌≡◌, ℕ, ◌<◌, ◌^◌, ℤ, pos, neg_ℤ, ◌≤ℤ◌, List, length, slice_get, Some, None}
+use Rattle.std.specs.Prelude.{◌≡◌, ℕ, ◌<◌, ◌≤◌, ◌^◌, ℤ, pos, neg_ℤ, ◌≤ℤ◌, List, length, true, slice_get, slice_index, Some, None}
 use Rattle.shortest_paths.specs.declared.edges.Distances.{Distances}
 use Rattle.shortest_paths.specs.Walks.{number_of, ClimbsIn, EndsLeast, IsWithin}
 use Rattle.min_cost_flow.specs.declared.network.Network.{Network}
+use Rattle.min_cost_flow.specs.declared.network.Step.{Step}
 use Rattle.min_cost_flow.specs.declared.residual.Residual.{Residual}
 use Rattle.min_cost_flow.specs.Flow.{IsTight}
 use Rattle.min_cost_flow.specs.Residual.{IsResidual, IsTreeTight}
@@ -27,3 +28,9 @@ pub record IsSearchOf (net : Network) (flow : List ℕ) (from : ℕ) (r : Residu
   pub ends : (v k : ℕ) → v < net.points → slice_get d.last v ≡ Some (Some k) → EndsLeast r.edges.items d.least v k
   pub tree : (v : ℕ) → v < net.points → (n : ℕ) × (n < net.points) × ClimbsIn r.edges.items d.last from n v
   pub tree_tight : IsTreeTight r.edges.items d.last (potential_of d.least)
+
+-- The walk to the point `to`, by the tree of cheapest walks, can carry so many units: each of its reverse arcs, at the
+-- point v that lies n edges before `to`, has them.
+abbrev pub CanCarry : List ℕ → Residual → Distances → ℕ → ℕ → Type 0
+CanCarry flow r d to units =
+    (n v k : ℕ) (s : Step) → ClimbsIn r.edges.items d.last v n to → slice_get d.last v ≡ Some (Some k) → slice_get r.steps.items k ≡ Some s → s.back ≡ true → units ≤ slice_index flow s.arc

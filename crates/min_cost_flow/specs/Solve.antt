@@ -1,17 +1,12 @@
--- What the solver keeps between two units that it sends. No public clause cites this.
-use Rattle.std.specs.Prelude.{◌≡◌, ℕ, ◌+◌, ◌*◌, ◌^◌, ◌<◌, ◌≤◌, ℤ, pos, negsuc, ◌+ℤ◌, List, length, slice_index}
+-- What the solver keeps between two searches. No public clause cites this.
+use Rattle.std.specs.Prelude.{◌≡◌, ℕ, ◌+◌, ◌^◌, ◌<◌, ◌≤◌, ℤ, pos, ◌+ℤ◌, List, length, slice_index}
 use Rattle.std.specs.List.{sum_by}
-use Rattle.shortest_paths.specs.Walks.{number_of}
+use Rattle.shortest_paths.specs.Walks.{number_of, from_zero}
 use Rattle.min_cost_flow.specs.declared.network.Network.{Network}
 use Rattle.min_cost_flow.specs.Flow.{total_of}
 use Rattle.min_cost_flow.specs.Residual.{net_of, HasNoNegativeResidualCycle}
 
--- A number from 0 on is itself, and one below 0 counts as 0.
-abbrev pub from_zero : ℤ → ℕ
-from_zero (pos n) = n
-from_zero (negsuc n) = 0
-
--- The units that are still to arrive. Each unit that is sent makes them fewer.
+-- The units that are still to arrive. Each search makes them fewer.
 abbrev pub wanted : List ℤ → ℕ
 wanted unmet = sum_by from_zero unmet
 
@@ -23,4 +18,4 @@ pub record IsMeeting (net : Network) (flow : List ℕ) (unmet : List ℤ) : Type
   pub unmet_is : (v : ℕ) → v < net.points → net_of net.arcs flow v +ℤ number_of unmet v ≡ number_of net.need v
   pub balanced : total_of unmet ≡ pos 0
   pub cycles : HasNoNegativeResidualCycle net.arcs flow
-  pub room : (k : ℕ) → slice_index flow k + 2 ^ 14 * wanted unmet ≤ 2 ^ 42
+  pub room : (k : ℕ) → slice_index flow k + wanted unmet ≤ 2 ^ 28

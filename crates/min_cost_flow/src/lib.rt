@@ -1,7 +1,9 @@
 //! Minimum-cost flow in a network whose arcs have no capacity, and the least potentials that certify it.
 //!
-//! [`solve`] sends one unit at a time along a cheapest walk of the residual network, as the successive shortest path
-//! algorithm does (Ahuja, Magnanti and Orlin, Network Flows, section 9.7), until the need of each point is met.
+//! [`solve`] sends units along cheapest walks of the residual network, as the successive shortest path algorithm does
+//! (Ahuja, Magnanti and Orlin, Network Flows, section 9.7), until the need of each point is met. Each augmentation sends
+//! as many units as the unmet needs of both ends and the reverse arcs of the walk allow, and one search serves all points
+//! of deficit that its tree of cheapest walks can.
 //! A last search from point 0, the root, gives the potentials.
 //!
 //! It promises that the flow meets the needs, that flow and potentials satisfy complementary slackness (each arc keeps
@@ -10,6 +12,7 @@
 //! It stands on `shortest_paths` for the cheapest walks, and on `graph_model` for lists.
 #![tactic(auto)]
 
+mod augment;
 mod network;
 mod residual;
 mod search;

@@ -62,9 +62,10 @@ pub(crate) fn residual_of(alloc: Global, arcs: &[Arc], flow: &[u64]) -> Result<R
     ensures steps_each { IfOk result (λ r. length r.steps.items ≡ length r.edges.items) }
     ensures residual { IfOk result (λ r. IsResidual arcs.now flow.now r.edges.items r.steps.items) }
 {
+    let most = 2 * arcs.len();
     let mut residual = Residual {
-        edges: Vec::new(alloc),
-        steps: Vec::new(alloc),
+        edges: Vec::with_capacity(alloc, most)?,
+        steps: Vec::with_capacity(alloc, most)?,
     };
     for (k, arc) in arcs.iter().enumerate() {
         residual.add(

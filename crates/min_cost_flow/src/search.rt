@@ -10,9 +10,10 @@ use crate::residual::{Residual, residual_of};
 use shortest_paths::{Distances, distances};
 use std::alloc::{AllocError, Global};
 
-// The residual network of a flow, and the cheapest walks in it.
+// The residual network of a flow, and the cheapest walks in it from a point.
 #[derive(Debug, Drop)]
 pub(crate) struct Walks {
+    pub(crate) from: u32,
     pub(crate) residual: Residual,
     pub(crate) least: Distances,
 }
@@ -29,9 +30,14 @@ pub(crate) fn walks_from(
     requires from { from < net.now.points }
     requires cycles { HasNoNegativeResidualCycle net.now.arcs flow.now }
 
-    ensures { IfOk result (λ w. IsSearchOf net.now flow.now from w.residual w.least) }
+    ensures from { IfOk result (λ w. w.from ≡ from) }
+    ensures search { IfOk result (λ w. IsSearchOf net.now flow.now from w.residual w.least) }
 {
     let residual = residual_of(alloc, net.arcs.as_slice(), flow)?;
     let least = distances(alloc, net.points, &residual.edges, from)?;
-    Ok(Walks { residual, least })
+    Ok(Walks {
+        from,
+        residual,
+        least,
+    })
 }

@@ -1,14 +1,14 @@
 //! The successive shortest path algorithm.
 
-ghost use Rattle.std.specs.Prelude.{◌≡◌, ℕ, ◌^◌, ◌<◌, ℤ, pos, neg_ℤ, ◌+ℤ◌, ◌-ℤ◌, slice_set, ◌≤ℤ◌, ◌<ℤ◌, List as Sequence, length, map, replicate, IfOk, MatchOption};
+ghost use Rattle.std.specs.Prelude.{◌≡◌, ℕ, ◌^◌, ◌<◌, ℤ, pos, neg_ℤ, ◌≤ℤ◌, ◌<ℤ◌, List as Sequence, length, map, replicate, IfOk, MatchOption};
 ghost use Rattle.std.specs.List.{All};
 ghost use Rattle.shortest_paths.specs.Walks.{number_of, IsWithin};
 ghost use Rattle.min_cost_flow.specs.Flow.{IsNetwork, IsTight, MeetsNeeds};
 ghost use Rattle.min_cost_flow.specs.Residual.{HasNoNegativeResidualCycle};
 
+use crate::augment::augment_all;
 use crate::network::{Network, Solved};
 use crate::search::walks_from;
-use crate::send::send;
 use graph_model::List;
 use std::alloc::{AllocError, Global};
 
@@ -38,8 +38,8 @@ pub fn solve(alloc: Global, net: &Network) -> Result<Solved, AllocError>
     Ok(Solved { flow, potential })
 }
 
-// A flow that meets the needs, with no negative cycle in its residual network. It sends one unit at a time, from a point
-// of excess to a point of deficit, so each augmentation is within the unmet need of both.
+// A flow that meets the needs, with no negative cycle in its residual network. Each search is from a point of excess, and
+// sends units from there to the points of deficit, until no need is unmet.
 fn least_flow(alloc: Global, net: &Network) -> Result<Vec<u64>, AllocError>
     requires network { IsNetwork net.now }
 
@@ -50,8 +50,8 @@ fn least_flow(alloc: Global, net: &Network) -> Result<Vec<u64>, AllocError>
     let mut flow = zeros(alloc, net.arcs.len())?;
     let mut unmet = Vec::from_slice(alloc, net.need.as_slice())?;
     while let (Some(from), Some(to)) = (excess_point(&unmet), deficit_point(&unmet)) {
-        send(alloc, net, &mut flow, from as u32, to as u32)?;
-        count_sent(&mut unmet, from, to);
+        let walks = walks_from(alloc, net, &flow, from as u32)?;
+        augment_all(net, &mut flow, &mut unmet, &walks, to as u32);
     }
     Ok(flow)
 }
@@ -75,19 +75,6 @@ fn deficit_point(unmet: &[i64]) -> Option<usize>
     ensures { MatchOption result (All (λ x. x ≤ℤ pos 0) unmet.now) (λ v. (v < length unmet.now) × (pos 0 <ℤ number_of unmet.now v)) }
 {
     unmet.iter().position(|x| *x > 0)
-}
-
-// Counts a unit that was sent.
-fn count_sent(unmet: &mut [i64], from: usize, to: usize)
-    requires from { from < length unmet.old }
-    requires to { to < length unmet.old }
-    requires below { number_of unmet.old from <ℤ pos 0 }
-    requires above { pos 0 <ℤ number_of unmet.old to }
-
-    ensures { unmet.new ≡ slice_set (slice_set unmet.old from (number_of unmet.old from +ℤ pos 1)) to (number_of unmet.old to -ℤ pos 1) }
-{
-    unmet[from] += 1;
-    unmet[to] -= 1;
 }
 
 // The potentials that least costs of walks give: minus the least cost of a walk to each point.

@@ -1,7 +1,9 @@
 pub mod Interleaving
-pub mod ForwardLaws
-pub mod Outgoing
-pub mod Pushes
-pub mod Found
-pub mod TestGraphs
-pub mod ForwardSound
+pub mod NodeFacts
+pub mod Adding
+pub mod RouteFacts
+pub mod StreamFacts
+pub mod OutgoingFacts
+pub mod SumFacts
+pub mod KindFacts
+pub mod OrderSteps

@@ -1,25 +1,46 @@
--- What an evaluation of a graph has found.
-use Rattle.std.specs.Prelude.{◌≡◌, ℕ, [], ◌*◌, ◌^◌, ◌<◌, ◌≤◌, length, get_or}
+-- What an evaluation of a graph finds.
+use Rattle.std.specs.Prelude.{◌≡◌, ℕ, List, [], ◌*◌, ◌^◌, ◌<◌, length, get_or, ℤ}
 use Rattle.std.specs.List.{All}
-use Rattle.graph_model.specs.Answers.{outgoing}
-use Rattle.graph_model.specs.Forward.{IsForward}
+use Rattle.graph_model.specs.Answers.{incoming, outgoing}
 use Rattle.graph_model.specs.Graphs.{input_name, outs_at}
 use Rattle.graph_model.specs.Histories.{History, frames_of, interleaved}
-use Rattle.graph_model.specs.declared.graph.Node.{Node}
-use Rattle.renderer.specs.Samples.{AreSmall, at_start}
+use Rattle.graph_model.specs.Paths.{reach}
+use Rattle.graph_model.specs.Sound.{IsSound}
+use Rattle.topology.specs.Named.{uid_at}
+use Rattle.renderer.specs.Built.{AreBuilt}
+use Rattle.renderer.specs.Routes.{AreRoutes}
+use Rattle.renderer.specs.Samples.{AreUpTo}
 use Rattle.renderer.specs.declared.evaluation.Evaluation.{Evaluation}
 
 -- the history of the input
 abbrev pub input_of : Evaluation → History
 input_of e = frames_of (outs_at e.graph.now (input_name e.graph.now)) e.input.now
 
--- of each of the first nodes, in the order of the list, the samples that went out of it
+-- the samples that go out of node i, and that come into it, interleaved
+abbrev pub outgoing_at : Evaluation → ℕ → List ℤ
+outgoing_at e i = interleaved (outgoing e.graph.now (reach e.graph.now) (input_of e) (uid_at e.graph.now i))
+
+abbrev pub incoming_at : Evaluation → ℕ → List ℤ
+incoming_at e i = interleaved (incoming e.graph.now (reach e.graph.now) (input_of e) (uid_at e.graph.now i))
+
+-- whole frames of small samples, and the routes of a graph that can be rendered
 pub record IsEvaluation (e : Evaluation) : Type 0 where
-  pub forward : IsForward e.graph.now
+  pub sound : IsSound e.graph.now
+  pub built : AreBuilt e.graph.now
+  pub routes : AreRoutes e.graph.now e.routes.items
   pub whole : length e.input.now ≡ e.frames * outs_at e.graph.now (input_name e.graph.now)
+  pub small : AreUpTo (2 ^ 31) e.input.now
   pub few : e.frames < 2 ^ 40
-  pub input_small : AreSmall e.input.now
-  pub within : length e.streams ≤ length e.graph.now.nodes
-  pub streams : (j : ℕ) (d : Node) → j < length e.streams →
-      get_or e.streams j [] ≡ interleaved (outgoing e.graph.now at_start (input_of e) (get_or e.graph.now.nodes j d).uid.0)
-  pub small : All AreSmall e.streams
+
+-- the streams have what goes out of node i
+abbrev pub HasStream : Evaluation → List (List ℤ) → ℕ → Type 0
+HasStream e streams i = get_or streams i [] ≡ outgoing_at e i
+
+-- of every source of node i
+abbrev pub HasSources : Evaluation → List (List ℤ) → ℕ → Type 0
+HasSources e streams i = All (λ r. r.dst ≡ i → HasStream e streams r.src) e.routes.items
+
+-- of every node
+pub record HasAll (e : Evaluation) (streams : List (List ℤ)) : Type 0 where
+  pub count : length streams ≡ length e.graph.now.nodes
+  pub each : (i : ℕ) → i < length e.graph.now.nodes → HasStream e streams i

@@ -1,3 +1,4 @@
 pub mod Samples
+pub mod Built
+pub mod Routes
 pub mod Evaluations
-pub mod Laws

@@ -1,113 +1,115 @@
-ghost use Rattle.std.specs.Prelude.{◌≡◌, ◌%◌, ◌^◌, ◌<◌, ◌≤◌, ◌-◌, IfOk, Some, length, unsigned_abs};
-ghost use Rattle.graph_model.specs.Answers.{incoming, outgoing, sum_into};
-ghost use Rattle.graph_model.specs.Forward.{IsForward, place_in};
-ghost use Rattle.graph_model.specs.Graphs.{input_name, node_named, outs_at};
-ghost use Rattle.graph_model.specs.Histories.{interleaved, sample};
-ghost use Rattle.renderer.specs.Samples.{AreSmall, at_start};
+//! The streams of a graph's nodes, in the order of the nodes.
 
-use crate::gain::gained;
-use crate::lookup::{connection_into, input_node, place_of};
-use graph_model::{Connection, Graph, Kind, List, Node, Uid};
+ghost use Rattle.std.specs.Prelude.{◌≡◌, ◌%◌, ◌^◌, ◌<◌, IfOk, length};
+ghost use Rattle.graph_model.specs.Graphs.{input_name, outs_at};
+ghost use Rattle.renderer.specs.Built.{AreBuilt};
+ghost use Rattle.renderer.specs.Samples.{AreUpTo};
+
+use crate::lookup::input_channels;
+use crate::routes::{Route, routes};
+use crate::streams::outgoing;
+use connections::Checked;
+use graph_model::{Kind, List};
 use std::alloc::{AllocError, Global};
 
-/// The streams of a graph's first nodes, each interleaved, as far as they have been found.
+/// A graph and its input, with what is looked up once: the routes of its connections and the number of frames.
 #[derive(Drop)]
 pub(crate) struct Evaluation<'a> {
-    graph: &'a Graph,
+    graph: &'a Checked,
+    routes: Vec<Route>,
     input: &'a [i64],
     frames: usize,
-    streams: List<List<i64>>,
 }
 
 impl<'a> Evaluation<'a> {
-    ghost use Rattle.renderer.specs.Evaluations.{IsEvaluation, input_of};
+    ghost use Rattle.renderer.specs.Evaluations.{IsEvaluation, HasAll, HasSources, incoming_at, outgoing_at};
 
-    /// The streams of all nodes, found in the order of the list.
-    pub(crate) fn of_nodes(
-        alloc: Global,
-        graph: &'a Graph,
-        input: &'a [i64],
-    ) -> Result<Self, AllocError>
-        requires forward { IsForward graph.now }
+    /// Whole frames of the graph's input node.
+    pub(crate) fn new(alloc: Global, graph: &'a Checked, input: &'a [i64]) -> Result<Self, AllocError>
+        requires built { AreBuilt graph.now }
         requires whole { length input.now % outs_at graph.now (input_name graph.now) ≡ 0 }
-        requires small { AreSmall input.now }
+        requires small { AreUpTo (2 ^ 31) input.now }
         requires few { length input.now < 2 ^ 40 }
         ensures state { IfOk result IsEvaluation }
-        ensures all { IfOk result (λ e. length e.streams ≡ length graph.now.nodes) }
         ensures same { IfOk result (λ e. (e.graph.now ≡ graph.now) × (e.input.now ≡ input.now)) }
     {
-        let mut evaluation = Evaluation {
+        Ok(Evaluation {
             graph,
+            routes: routes(alloc, graph)?,
             input,
-            frames: input.len() / input_node(graph).unwrap().outs() as usize,
-            streams: List::new(alloc),
-        };
-        for node in graph.nodes.as_slice() {
-            let stream = evaluation.outgoing(alloc, node)?;
-            evaluation.streams.push(stream)?;
-        }
-        Ok(evaluation)
+            frames: input.len() / input_channels(graph.graph()),
+        })
     }
 
-    /// What came into a node that all its sources stand before, interleaved.
-    pub(crate) fn incoming(&self, alloc: Global, node: &Node) -> Result<List<i64>, AllocError>
-        requires state { IsEvaluation self.now }
-        requires found { node_named self.now.graph.now node.now.uid.0 ≡ Some node.now }
-        requires reached { place_in self.now.graph.now node.now.uid.0 ≤ length self.now.streams }
-        ensures samples { IfOk result (λ v. v ≡ interleaved (incoming self.now.graph.now at_start (input_of self.now) node.now.uid.0)) }
-        ensures small { IfOk result AreSmall }
+    /// What goes out of each node, by index, interleaved.
+    pub(crate) fn streams(&self, alloc: Global) -> Result<Vec<List<i64>>, AllocError>
+        requires { IsEvaluation self.now }
+        ensures { IfOk result (λ v. HasAll self.now v.items) }
     {
-        let channels = node.ins() as usize;
-        let mut samples = List::new(alloc);
-        for at in 0..self.frames * channels {
-            let channel = (at % channels) as u32;
-            samples.push(self.sample_into(node.uid, channel, at / channels))?;
+        let order = self.graph.order().as_slice();
+        let mut streams = self.no_streams(alloc)?;
+        for index in order {
+            let node = *index as usize;
+            let stream = self.outgoing(alloc, &streams, node)?;
+            streams[node] = stream;
         }
-        Ok(samples)
+        Ok(streams)
     }
 
-    /// What goes out of the next node, interleaved.
-    fn outgoing(&self, alloc: Global, node: &Node) -> Result<List<i64>, AllocError>
-        requires state { IsEvaluation self.now }
-        requires found { node_named self.now.graph.now node.now.uid.0 ≡ Some node.now }
-        requires next { place_in self.now.graph.now node.now.uid.0 ≡ length self.now.streams }
-        ensures samples { IfOk result (λ v. v ≡ interleaved (outgoing self.now.graph.now at_start (input_of self.now) node.now.uid.0)) }
-        ensures small { IfOk result AreSmall }
+    /// An empty list for each node.
+    fn no_streams(&self, alloc: Global) -> Result<Vec<List<i64>>, AllocError>
+        ensures { IfOk result (λ v. length v.items ≡ length self.now.graph.now.nodes) }
     {
-        match node.kind {
+        let nodes = self.graph.graph().nodes.as_slice();
+        nodes.iter().map(|_| List::new(alloc)).collect(alloc)
+    }
+
+    /// What goes out of a node whose sources have their streams, interleaved.
+    fn outgoing(
+        &self,
+        alloc: Global,
+        streams: &[List<i64>],
+        node: usize,
+    ) -> Result<List<i64>, AllocError>
+        requires state { IsEvaluation self.now }
+        requires count { length streams.now ≡ length self.now.graph.now.nodes }
+        requires node { node < length self.now.graph.now.nodes }
+        requires sources { HasSources self.now streams.now node }
+        ensures { IfOk result (λ v. v ≡ outgoing_at self.now node) }
+    {
+        let kind = &self.graph.graph().nodes.as_slice()[node].kind;
+        match kind {
             Kind::Input { .. } => List::from_slice(alloc, self.input),
-            Kind::Gain { gain, .. } => gained(alloc, gain, self.incoming(alloc, node)?.as_slice()),
             Kind::Output { .. } => Ok(List::new(alloc)),
-            _ => unreachable!(),
+            _ => {
+                let incoming = self.incoming(alloc, streams, node)?;
+                outgoing(alloc, kind, &incoming)
+            }
         }
     }
 
-    /// The sample that came into an input channel at a time.
-    fn sample_into(&self, uid: Uid, channel: u32, time: usize) -> i64
+    /// What comes into a node whose sources have their streams, interleaved: in each channel the sum of what its
+    /// connections bring, and silence where it has none.
+    pub(crate) fn incoming(
+        &self,
+        alloc: Global,
+        streams: &[List<i64>],
+        node: usize,
+    ) -> Result<Vec<i64>, AllocError>
         requires state { IsEvaluation self.now }
-        requires reached { place_in self.now.graph.now uid.0 ≤ length self.now.streams }
-        requires time { time < self.now.frames }
-        ensures value { result ≡ sum_into self.now.graph.now at_start (outgoing self.now.graph.now at_start (input_of self.now)) uid.0 channel (self.now.frames - 1 - time) }
-        ensures small { unsigned_abs result ≤ 2 ^ 31 }
+        requires count { length streams.now ≡ length self.now.graph.now.nodes }
+        requires node { node < length self.now.graph.now.nodes }
+        requires sources { HasSources self.now streams.now node }
+        ensures { IfOk result (λ v. v.items ≡ incoming_at self.now node) }
     {
-        match connection_into(self.graph, uid, channel) {
-            Some(connection) => self.sample_over(connection, time),
-            None => 0,
+        let channels = self.graph.graph().nodes.as_slice()[node].ins() as usize;
+        let mut sums = vec![in alloc; 0; self.frames * channels]?;
+        for route in &self.routes {
+            if route.dst == node {
+                let stream = streams[route.src].as_slice();
+                route.add(stream, &mut sums, self.frames);
+            }
         }
-    }
-
-    /// The sample that a connection from a node that has been evaluated brings at a time.
-    fn sample_over(&self, connection: &Connection, time: usize) -> i64
-        requires state { IsEvaluation self.now }
-        requires before { place_in self.now.graph.now connection.now.src.0 < length self.now.streams }
-        requires channel { connection.now.src_channel < outs_at self.now.graph.now connection.now.src.0 }
-        requires time { time < self.now.frames }
-        ensures value { result ≡ sample (outgoing self.now.graph.now at_start (input_of self.now) connection.now.src.0) connection.now.src_channel (self.now.frames - 1 - time) }
-        ensures small { unsigned_abs result ≤ 2 ^ 31 }
-    {
-        let place = place_of(self.graph, connection.src).unwrap();
-        let channels = self.graph.nodes.as_slice()[place].outs() as usize;
-        let samples = self.streams.as_slice()[place].as_slice();
-        samples[time * channels + connection.src_channel as usize]
+        Ok(sums)
     }
 }

@@ -1,10 +1,11 @@
-ghost use Rattle.std.specs.Prelude.{◌≡◌, ◌==◌};
+ghost use Rattle.std.specs.Prelude.{◌≡◌, ◌==◌, ◌<◌, length};
 ghost use Rattle.std.specs.List.{find, position};
 ghost use Rattle.std.specs.Option.{option_copied};
-ghost use Rattle.graph_model.specs.Graphs.{is_input, is_output};
-ghost use Rattle.renderer.specs.Samples.{leads_into};
+ghost use Rattle.graph_model.specs.Graphs.{is_input, is_output, input_name, outs_at, output_name};
+ghost use Rattle.graph_model.specs.Sound.{IsSound};
+ghost use Rattle.topology.specs.Named.{uid_at};
 
-use graph_model::{Connection, Graph, Kind, Node, Uid};
+use graph_model::{Graph, Kind, Node, Uid};
 
 /// Whether it is an input node.
 fn takes_input(node: &Node) -> bool
@@ -20,49 +21,43 @@ fn gives_output(node: &Node) -> bool
     matches!(node.kind, Kind::Output { .. })
 }
 
-/// Whether a connection leads into an input channel of a node.
-fn enters(connection: &Connection, uid: Uid, channel: u32) -> bool
-    ensures { result ≡ leads_into uid.0 channel connection.now }
-{
-    connection.dst.0 == uid.0 && connection.dst_channel == channel
-}
-
 /// The graph's first input node.
-pub(crate) fn input_node(graph: &Graph) -> Option<&Node>
+fn input_node(graph: &Graph) -> Option<&Node>
     ensures { option_copied result ≡ find (λ n. is_input n.kind) graph.now.nodes }
 {
     graph.nodes.as_slice().iter().find(|node| takes_input(node))
 }
 
-/// The graph's first output node.
-pub(crate) fn output_node(graph: &Graph) -> Option<&Node>
-    ensures { option_copied result ≡ find (λ n. is_output n.kind) graph.now.nodes }
+/// The index of the first output node.
+fn output_place(graph: &Graph) -> Option<usize>
+    ensures { result ≡ position (λ n. is_output n.kind) graph.now.nodes }
 {
-    graph
-        .nodes
-        .as_slice()
-        .iter()
-        .find(|node| gives_output(node))
+    let nodes = graph.nodes.as_slice();
+    nodes.iter().position(|node| gives_output(node))
 }
 
-/// The first connection into an input channel of a node.
-pub(crate) fn connection_into(graph: &Graph, uid: Uid, channel: u32) -> Option<&Connection>
-    ensures { option_copied result ≡ find (leads_into uid.0 channel) graph.now.connections }
-{
-    graph
-        .connections
-        .as_slice()
-        .iter()
-        .find(|connection| enters(connection, uid, channel))
-}
-
-/// The place of the first node of that name.
+/// The index of the first node of that name.
 pub(crate) fn place_of(graph: &Graph, uid: Uid) -> Option<usize>
     ensures { result ≡ position (λ n. n.uid.0 == uid.0) graph.now.nodes }
 {
-    graph
-        .nodes
-        .as_slice()
-        .iter()
-        .position(|node| node.uid.0 == uid.0)
+    let nodes = graph.nodes.as_slice();
+    nodes.iter().position(|node| node.uid.0 == uid.0)
+}
+
+/// How many channels the input node has.
+pub(crate) fn input_channels(graph: &Graph) -> usize
+    requires { IsSound graph.now }
+    ensures channels { result ≡ outs_at graph.now (input_name graph.now) }
+    ensures some { 0 < result }
+{
+    input_node(graph).unwrap().outs() as usize
+}
+
+/// The index of the output node.
+pub(crate) fn output_index(graph: &Graph) -> usize
+    requires { IsSound graph.now }
+    ensures within { result < length graph.now.nodes }
+    ensures name { uid_at graph.now result ≡ output_name graph.now }
+{
+    output_place(graph).unwrap()
 }

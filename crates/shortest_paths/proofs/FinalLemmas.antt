@@ -7,8 +7,8 @@ use Rattle.std.proofs.lemmas.List.Elements.{All-contains}
 use Rattle.std.proofs.lemmas.List.Sums.{sum_by-set}
 use Rattle.shortest_paths.specs.declared.edges.Edge.{Edge}
 use Rattle.shortest_paths.specs.declared.edges.Best.{Best}
-use Rattle.shortest_paths.specs.Walks.{IsWalk, cost_of, Joins, IsWithin, IsLeastCost, Reaches, ClimbsIn, EndsLeast, number_of}
-use Rattle.shortest_paths.specs.Search.{found, AtMost, IsSearched, AreSettled, LastOf, IsReadOff, room, room_of, from_zero}
+use Rattle.shortest_paths.specs.Walks.{IsWalk, cost_of, Joins, IsWithin, IsLeastCost, Reaches, ClimbsIn, EndsLeast, number_of, from_zero}
+use Rattle.shortest_paths.specs.Search.{found, AtMost, IsSearched, AreSettled, LastOf, IsReadOff, room, room_of}
 use Rattle.shortest_paths.proofs.WalkLemmas.{back_from_traced, walk_from_back, some_same, edge_at}
 use Rattle.shortest_paths.proofs.EndLemmas.{settled_walk}
 use Rattle.shortest_paths.proofs.TreeLemmas.{tree_from_older, Older}

@@ -1,9 +1,9 @@
 -- What the search for least costs keeps from one edge to the next. No public clause cites this.
-use Rattle.std.specs.Prelude.{◌≡◌, ◌≢◌, ℕ, ◌<◌, ◌^◌, ℤ, pos, negsuc, ◌+ℤ◌, ◌≤ℤ◌, ◌<ℤ◌, List, [], ◌∷◌, length, slice_get, slice_set, slice_index_or, Option, Some, None}
+use Rattle.std.specs.Prelude.{◌≡◌, ◌≢◌, ℕ, ◌<◌, ◌^◌, ℤ, pos, ◌+ℤ◌, ◌≤ℤ◌, ◌<ℤ◌, List, [], ◌∷◌, length, slice_get, slice_set, slice_index_or, Option, Some, None}
 use Rattle.std.specs.List.{Contains, sum_by}
 use Rattle.shortest_paths.specs.declared.edges.Edge.{Edge}
 use Rattle.shortest_paths.specs.declared.edges.Best.{Best}
-use Rattle.shortest_paths.specs.Walks.{cost_of, number_of, IsWithin}
+use Rattle.shortest_paths.specs.Walks.{cost_of, number_of, from_zero, IsWithin}
 
 -- The best walk to v that was found, if one was.
 abbrev pub found : List (Option Best) → ℕ → Option Best
@@ -70,11 +70,6 @@ pub record IsImprovement (old new : List (Option Best)) (k : ℕ) (e : Edge) : T
 -- Each cost is so small that its sum with the cost of an edge is an i64.
 abbrev pub AreBounded : List (Option Best) → Type 0
 AreBounded best = (v : ℕ) (b : Best) → v < length best → found best v ≡ Some b → IsWithin (2 ^ 60) b.cost
-
--- A number from 0 on is itself, and one below 0 counts as 0.
-abbrev pub from_zero : ℤ → ℕ
-from_zero (pos n) = n
-from_zero (negsuc n) = 0
 
 -- The room of a point falls where a walk to it is found or gets cheaper.
 abbrev pub room_of : Option Best → ℕ

@@ -2,7 +2,7 @@
 --
 -- The words are those of Ahuja, Magnanti and Orlin, Network Flows, chapters 4 and 5. A point of theirs is a node, a cost
 -- a length, a least cost a shortest path distance, and the tree a shortest path tree of predecessors.
-use Rattle.std.specs.Prelude.{◌≡◌, ℕ, zero, suc, ◌<◌, ℤ, pos, ◌+ℤ◌, neg_ℤ, ◌≤ℤ◌, List, [], ◌∷◌, slice_get, slice_index_or, Option, Some}
+use Rattle.std.specs.Prelude.{◌≡◌, ℕ, zero, suc, ◌<◌, ℤ, pos, negsuc, ◌+ℤ◌, neg_ℤ, ◌≤ℤ◌, List, [], ◌∷◌, slice_get, slice_index_or, Option, Some}
 use Rattle.std.specs.List.{Contains}
 use Rattle.shortest_paths.specs.declared.edges.Edge.{Edge}
 
@@ -41,6 +41,11 @@ IsWithin bound z = (neg_ℤ (pos bound) ≤ℤ z) × (z ≤ℤ pos bound)
 -- The number of the point v, in a list with one number for each point.
 abbrev pub number_of : List ℤ → ℕ → ℤ
 number_of numbers v = slice_index_or numbers v (pos 0)
+
+-- A number from 0 on is itself, and one below 0 counts as 0.
+abbrev pub from_zero : ℤ → ℕ
+from_zero (pos n) = n
+from_zero (negsuc n) = 0
 
 -- The edge at index k ends a least walk to v: it arrives at v, and v's least cost is its tail's and the edge's cost.
 pub record EndsLeast (edges : List Edge) (least : List ℤ) (v k : ℕ) : Type 0 where

@@ -75,7 +75,7 @@ fn none_found(alloc: Global, points: u32) -> Result<Vec<Option<Best>>, AllocErro
     ensures len { IfOk result (λ best. vec_len best ≡ points) }
     ensures items { IfOk result (λ best. best.items ≡ replicate points None) }
 {
-    let mut best = Vec::new(alloc);
+    let mut best = Vec::with_capacity(alloc, points as usize)?;
     for _ in 0..points {
         best.push(None)?;
     }

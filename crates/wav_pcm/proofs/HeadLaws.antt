@@ -1,67 +1,81 @@
--- What is told of a file whose first 44 bytes were read.
-use Rattle.std.proofs.Common.{◌≡◌, ℕ, ◌+◌, ◌-◌, ◌*◌, ◌/◌, ◌%◌, ◌^◌, ◌<◌, ◌≤◌, List, length, take, Some, None, inl, inr, refl, sym, ap, ◌∙◌, subst, arith, mul_comm}
-use Rattle.std.proofs.Math.Nat.{div-mul-le_self, div-add-mod}
-use Rattle.std.specs.Prelude.{Option, IfSome}
-use Rattle.gh_outside.specs.Holdings.{Holding, IsMissing, HeldBytes}
+-- How a file is read by its chunks of format and of data.
+use Rattle.std.proofs.Common.{◌≡◌, ℕ, ◌+◌, ◌-◌, ◌*◌, ◌/◌, ◌%◌, ◌^◌, ◌<◌, ◌≤◌, Bool, true, false, List, length, take, drop, Option, Some, None, refl, sym, ap, ◌∙◌, subst, arith, cond, ◌&&◌}
+use Rattle.std.specs.Prelude.{Result, Ok, Err, slice_range, codes, find, if◌then◌else◌}
+use Rattle.std.specs.Str.{bytes_eq}
+use Rattle.std.proofs.lemmas.Bool.{le-leb}
+use Rattle.std.proofs.lemmas.Bool.Decides.{nat_tests}
+use Rattle.std.proofs.Math.Dec.{leb}
+use Rattle.graph_model.specs.Refusals.{and_then}
+use Rattle.wav_pcm.specs.Chunks.{AreChunks, mark_at, is_format, is_data}
+use Rattle.wav_pcm.specs.Formats.{whole_format, format_in, checked_format}
+use Rattle.wav_pcm.specs.Files.{is_wave_start, is_wave, head_in, head_by, reading, ReadsAs}
+use Rattle.wav_pcm.specs.Laws.{ReadingIsOne}
+use Rattle.wav_pcm.specs.declared.chunk.Chunk.{Chunk}
+use Rattle.wav_pcm.specs.declared.format.Format.{Format}
 use Rattle.wav_pcm.specs.declared.head.Head.{Head}
-use Rattle.wav_pcm.specs.Files.{IsPlainHead, IsPlainFile, head_in, plain_head, data_size, IsHead, IsNoPlainFile}
+use Rattle.wav_pcm.specs.declared.head.WavFault.{WavFault}
+use Rattle.wav_pcm.specs.declared.head.WavFault.TheVariants as fault
+use Rattle.wav_pcm.proofs.Told.{part_in}
+use Rattle.wav_pcm.proofs.ChunkLaws.{Found, chunks_exist, chunks_unique}
 
-some_plain : (o : Option (List ℕ)) (channels size : ℕ) (bytes : List ℕ) (head : Head)
-    → IfSome o (λ file. size ≡ length file) → IfSome o (λ file. bytes ≡ take 44 file) → IsPlainHead channels size bytes → head ≡ head_in channels size bytes
-    → IfSome o (λ file. IsPlainFile channels file × (head ≡ plain_head channels file))
-some_plain None channels size bytes head s b plain e = tt
-some_plain (Some file) channels size bytes head s b plain e = (
-  subst (λ n. IsPlainHead channels n (take 44 file)) s (subst (IsPlainHead channels size) b plain),
-  e ∙ ap (head_in channels size) b ∙ ap (λ n. head_in channels n (take 44 file)) s,
-)
+-- the first 12 bytes say whether a file is RIFF/WAVE
+pub wave_start : (bytes start : List ℕ) → start ≡ slice_range bytes 0 12 → 12 ≤ length bytes → is_wave_start start ≡ is_wave bytes
+wave_start bytes start is room =
+    let a : mark_at 0 start ≡ mark_at 0 bytes = part_in 4 0 12 0 12 bytes start refl is (omega arith) in
+    let b : mark_at 8 start ≡ mark_at 8 bytes = part_in 4 8 12 0 12 bytes start refl is (omega arith) in
+    ap (λ x. bytes_eq x (codes "RIFF") && bytes_eq (mark_at 8 start) (codes "WAVE")) a
+    ∙ ap (λ x. bytes_eq (mark_at 0 bytes) (codes "RIFF") && bytes_eq x (codes "WAVE")) b
+    ∙ ap (λ x. x && is_wave_start bytes) (sym (le-leb 12 (length bytes) room))
 
--- a head that was read is the head of the file
-pub plain_told : (name : List ℕ) (held : Option Holding) (channels size : ℕ) (bytes : List ℕ) (head : Head)
-    → HeldBytes name held (λ file. size ≡ length file) → HeldBytes name held (λ file. bytes ≡ take 44 file)
-    → IsPlainHead channels size bytes × (head ≡ head_in channels size bytes)
-    → HeldBytes name held (λ file. IsPlainFile channels file × (head ≡ plain_head channels file))
-plain_told name None channels size bytes head s b plain = tt
-plain_told name (Some files) channels size bytes head s b plain = some_plain (files name) channels size bytes head s b plain.0 plain.1
+pub few_bytes : (bytes : List ℕ) → length bytes < 12 → false ≡ is_wave bytes
+few_bytes bytes few = ap (λ x. x && is_wave_start bytes) (sym (less-leb 12 (length bytes) few))
+  where
+    less-leb : (a b : ℕ) → b < a → leb a b ≡ false
+    less-leb a b less = grind (arith, nat_tests)
 
-some_other : (o : Option (List ℕ)) (channels size : ℕ) (bytes : List ℕ) → ¬ (o ≡ None)
-    → IfSome o (λ file. size ≡ length file) → IfSome o (λ file. bytes ≡ take 44 file) → ¬ IsPlainHead channels size bytes
-    → (file : List ℕ) × (o ≡ Some file) × ¬ IsPlainFile channels file
-some_other None channels size bytes there s b other = absurd (there refl)
-some_other (Some file) channels size bytes there s b other =
-    (file, refl, λ plain. other (subst (IsPlainHead channels size) (sym b) (subst (λ n. IsPlainHead channels n (take 44 file)) (sym s) plain)))
+-- a file of RIFF/WAVE, by its two chunks
+pub reads_wave : (graph : ℕ) (bytes : List ℕ) (first chunk : Option Chunk) (answer : Result Head WavFault) → true ≡ is_wave bytes → Found bytes first chunk
+    → answer ≡ head_by graph bytes first chunk → ReadsAs graph bytes answer
+reads_wave graph bytes first chunk answer wave found is =
+    let all = found.0 in
+    let parts = head_by graph bytes (find is_format all) (find is_data all) in (
+      all,
+      found.1,
+      is ∙ ap (λ x. head_by graph bytes x chunk) found.2 ∙ ap (head_by graph bytes (find is_format all)) found.3
+          ∙ ap (λ b. if b then parts else Err fault.NotRiff) wave,
+    )
 
--- where no head was read the file is not of the form
-pub other_told : (name : List ℕ) (held : Option Holding) (channels size : ℕ) (bytes : List ℕ) → ¬ IsMissing name held
-    → HeldBytes name held (λ file. size ≡ length file) → HeldBytes name held (λ file. bytes ≡ take 44 file) → ¬ IsPlainHead channels size bytes
-    → IsNoPlainFile channels name held
-other_told name None channels size bytes there s b other = tt
-other_told name (Some files) channels size bytes there s b other = some_other (files name) channels size bytes there s b other
+-- a file that is not
+pub reads_other : (graph : ℕ) (bytes : List ℕ) → false ≡ is_wave bytes → ReadsAs graph bytes (Err fault.NotRiff)
+reads_other graph bytes other =
+    let all = chunks_exist (length bytes) 12 bytes (omega arith) in
+    let parts = head_by graph bytes (find is_format all.0) (find is_data all.0) in
+    (all.0, all.1, ap (λ b. if b then parts else Err fault.NotRiff) other)
 
--- what a head says can be read
-pub readable : (channels size : ℕ) (bytes : List ℕ) (head : Head) → 1 ≤ channels → channels ≤ 32 → size < 2 ^ 64
-    → IsPlainHead channels size bytes × (head ≡ head_in channels size bytes) → IsHead head × (head.channels ≡ channels) × (head.bits ≡ 16)
-readable channels size bytes head least most small plain =
-    let h = plain.0 in
-    let e : (size - 44) / (2 * channels) * (channels * 2) ≤ size - 44 = rw (mul_comm channels 2) (div-mul-le_self (size - 44) (2 * channels)) in
-    let whole : 44 ≤ size = h.whole in
-    let room : 44 + (size - 44) / (2 * channels) * (channels * 2) < 2 ^ 64 = omega arith in
-    let is : IsHead (head_in channels size bytes) = record {
-      channels_least = least;
-      channels_most = most;
-      rate_least = h.form.rate_least;
-      rate_most = h.form.rate_most;
-      size = inr (inl refl);
-      room = room;
-    } in
-    (subst IsHead (sym plain.1) is, ap (λ x. x.channels) plain.1, ap (λ x. x.bits) plain.1)
+-- the three steps of the rest
+pub no_format : (graph : ℕ) (bytes : List ℕ) (first chunk : Option Chunk) (f : WavFault) → Err f ≡ whole_format (length bytes) first → Err f ≡ head_by graph bytes first chunk
+no_format graph bytes first chunk f is =
+    ap (and_then (λ whole. and_then (λ format. head_in (length bytes) format chunk) (checked_format graph (format_in bytes whole)))) is
 
--- the frames of such a file go to its end
-pub data_size-plain : (channels : ℕ) (file : List ℕ) → 1 ≤ channels → IsPlainFile channels file → 44 + data_size (plain_head channels file) ≡ length file
-data_size-plain channels file least plain =
-    let n = length file - 44 in
-    let d = 2 * channels in
-    let split : d * (n / d) + n % d ≡ n = div-add-mod n d in
-    let whole : n % d ≡ 0 = plain.whole_frames in
-    let room : 44 ≤ length file = plain.whole in
-    let turn : n / d * (channels * 2) ≡ d * (n / d) = ap (λ x. n / d * x) (mul_comm channels 2) ∙ mul_comm (n / d) d in
-    omega (arith, split, whole, turn)
+pub other_format : (graph : ℕ) (bytes : List ℕ) (first chunk : Option Chunk) (whole : Chunk) (f : WavFault) → Ok whole ≡ whole_format (length bytes) first
+    → Err f ≡ checked_format graph (format_in bytes whole) → Err f ≡ head_by graph bytes first chunk
+other_format graph bytes first chunk whole f is other =
+    ap (and_then (λ format. head_in (length bytes) format chunk)) other
+    ∙ ap (and_then (λ w. and_then (λ format. head_in (length bytes) format chunk) (checked_format graph (format_in bytes w)))) is
+
+pub by_format : (graph : ℕ) (bytes : List ℕ) (first chunk : Option Chunk) (whole : Chunk) (format : Format) → Ok whole ≡ whole_format (length bytes) first
+    → Ok format ≡ checked_format graph (format_in bytes whole) → head_in (length bytes) format chunk ≡ head_by graph bytes first chunk
+by_format graph bytes first chunk whole format is checks =
+    ap (and_then (λ f. head_in (length bytes) f chunk)) checks
+    ∙ ap (and_then (λ w. and_then (λ f. head_in (length bytes) f chunk) (checked_format graph (format_in bytes w)))) is
+
+-- every file is read in one way
+reads_unique : (graph : ℕ) (bytes : List ℕ) (a b : Result Head WavFault) → ReadsAs graph bytes a → ReadsAs graph bytes b → a ≡ b
+reads_unique graph bytes a b p q = p.2 ∙ ap (reading graph bytes) (chunks_unique 12 bytes p.0 q.0 p.1 q.1) ∙ sym q.2
+
+pub reading_is_one : ReadingIsOne
+reading_is_one graph bytes =
+    let all = chunks_exist (length bytes) 12 bytes (omega arith) in
+    let answer = reading graph bytes all.0 in
+    let is : ReadsAs graph bytes answer = (all.0, all.1, refl) in
+    (answer, is, λ other said. reads_unique graph bytes other answer said is)

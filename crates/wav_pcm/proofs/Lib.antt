@@ -1,8 +1,13 @@
 pub mod Sizes
 pub mod SampleLaws
-pub mod HeadLaws
-pub mod Examples
 pub mod BackLaws
 pub mod BodyLaws
-pub mod FileLaws
 pub mod PartLaws
+pub mod Told
+pub mod ChunkLaws
+pub mod FormatLaws
+pub mod HeadLaws
+pub mod OkLaws
+pub mod TellLaws
+pub mod FileLaws
+pub mod Examples

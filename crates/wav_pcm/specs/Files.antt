@@ -1,62 +1,51 @@
--- Files that are read, and what their heads say.
-use Rattle.std.specs.Prelude.{◌≡◌, ◌≤◌, ◌<◌, ℕ, ◌+◌, ◌-◌, ◌*◌, ◌/◌, ◌%◌, ◌^◌, List, codes, length, take, drop, ℤ, Option, Some, None, ⊤}
-use Rattle.byteorder.specs.Endian.{little_number}
-use Rattle.gh_outside.specs.Holdings.{Holding}
+-- How the bytes of a file are read: as a head and frames, or as what is wrong with them first.
+use Rattle.std.specs.Prelude.{◌≡◌, ◌≤◌, ◌<◌, ℕ, ◌+◌, ◌-◌, ◌*◌, ◌/◌, ◌%◌, ◌^◌, ◌==◌, ◌&&◌, List, codes, length, take, drop, Bool, nat_le, if◌then◌else◌, find, ℤ, Option, Some, None, Result, Ok, Err}
+use Rattle.std.specs.Str.{bytes_eq}
+use Rattle.graph_model.specs.Refusals.{and_then}
 use Rattle.wav_pcm.specs.Samples.{IsSize, samples_in}
+use Rattle.wav_pcm.specs.Chunks.{mark_at, is_format, is_data, AreChunks}
+use Rattle.wav_pcm.specs.Formats.{whole_format, format_in, checked_format}
+use Rattle.wav_pcm.specs.declared.chunk.Chunk.{Chunk}
+use Rattle.wav_pcm.specs.declared.format.Format.{Format}
 use Rattle.wav_pcm.specs.declared.head.Head.{Head}
+use Rattle.wav_pcm.specs.declared.head.WavFault.{WavFault}
+use Rattle.wav_pcm.specs.declared.head.WavFault.TheVariants as fault
 
--- the four characters at an offset
-abbrev pub mark_at : ℕ → List ℕ → List ℕ
-mark_at from bytes = take 4 (drop from bytes)
+-- the first 12 bytes of RIFF/WAVE; the size at 4 may be anything
+abbrev pub is_wave_start : List ℕ → Bool
+is_wave_start bytes = bytes_eq (mark_at 0 bytes) (codes "RIFF") && bytes_eq (mark_at 8 bytes) (codes "WAVE")
 
--- the numbers of 16 and of 32 bits at an offset
-abbrev pub u16_at : ℕ → List ℕ → ℕ
-u16_at from bytes = little_number 2 (drop from bytes)
+-- a file that begins so
+abbrev pub is_wave : List ℕ → Bool
+is_wave bytes = nat_le 12 (length bytes) && is_wave_start bytes
 
-abbrev pub u32_at : ℕ → List ℕ → ℕ
-u32_at from bytes = little_number 4 (drop from bytes)
+-- how many frames of a size stand in data of a size, of which so many bytes are there; 2^32 - 1 is a size that was left open
+abbrev pub frames_in : ℕ → ℕ → ℕ → Result ℕ WavFault
+frames_in frame size there =
+    if size == 2 ^ 32 - 1 then Ok (there / frame)
+    else (if nat_le size there
+    then (if size % frame == 0 then Ok (size / frame) else Err (fault.Ragged size frame))
+    else Err (fault.Short size there))
 
--- the marks of a file and of its chunks of format and of data
-pub record HasMarks (bytes : List ℕ) : Type 0 where
-  pub riff_mark : mark_at 0 bytes ≡ codes "RIFF"
-  pub wave_mark : mark_at 8 bytes ≡ codes "WAVE"
-  pub format_mark : mark_at 12 bytes ≡ codes "fmt "
-  pub data_mark : mark_at 36 bytes ≡ codes "data"
+-- the head by the format and the chunk of data, in a file of so many bytes
+abbrev pub head_in : ℕ → Format → Option Chunk → Result Head WavFault
+head_in bytes format None = Err fault.NoData
+head_in bytes format (Some chunk) =
+    and_then (λ frames. Ok (record { channels = format.channels; rate = format.rate; bits = format.bits; frames = frames; from = chunk.from }))
+    (frames_in (format.channels * (format.bits / 8)) chunk.size (bytes - chunk.from))
 
--- a chunk of format of 16 bytes that says PCM with so many channels, a rate up to 1,000,000, and samples of 16 bits
-pub record HasForm (count : ℕ) (bytes : List ℕ) : Type 0 where
-  pub size : u32_at 16 bytes ≡ 16
-  pub tag : u16_at 20 bytes ≡ 1
-  pub channels : u16_at 22 bytes ≡ count
-  pub rate_least : 1 ≤ u32_at 24 bytes
-  pub rate_most : u32_at 24 bytes ≤ 1000000
-  pub bits : u16_at 34 bytes ≡ 16
+-- the head by the chunks of format and of data
+abbrev pub head_by : ℕ → List ℕ → Option Chunk → Option Chunk → Result Head WavFault
+head_by graph bytes first chunk =
+    and_then (λ whole. and_then (λ format. head_in (length bytes) format chunk) (checked_format graph (format_in bytes whole))) (whole_format (length bytes) first)
 
--- The first 44 bytes of a file of so many channels and bytes, with samples of 16 bits and whole frames up to its end.
--- The fields at 4, 28 and 32 may hold anything.
-pub record IsPlainHead (count size : ℕ) (bytes : List ℕ) : Type 0 where
-  pub whole : 44 ≤ size
-  pub marks : HasMarks bytes
-  pub form : HasForm count bytes
-  pub data_size : u32_at 40 bytes ≡ size - 44
-  pub whole_frames : (size - 44) % (2 * count) ≡ 0
+-- how a file with these chunks is read for a graph whose input has so many channels
+abbrev pub reading : ℕ → List ℕ → List Chunk → Result Head WavFault
+reading graph bytes chunks = if is_wave bytes then head_by graph bytes (find is_format chunks) (find is_data chunks) else Err fault.NotRiff
 
--- a file that begins with such a head
-abbrev pub IsPlainFile : ℕ → List ℕ → Type 0
-IsPlainFile channels bytes = IsPlainHead channels (length bytes) (take 44 bytes)
-
--- what such a head says
-abbrev pub head_in : ℕ → ℕ → List ℕ → Head
-head_in channels size bytes = record {
-  channels = channels;
-  rate = u32_at 24 bytes;
-  bits = 16;
-  frames = (size - 44) / (2 * channels);
-  from = 44;
-}
-
-abbrev pub plain_head : ℕ → List ℕ → Head
-plain_head channels bytes = head_in channels (length bytes) (take 44 bytes)
+-- the file is read as this head, or refused by this fault; the chunks begin at 12
+abbrev pub ReadsAs : ℕ → List ℕ → Result Head WavFault → Type 0
+ReadsAs graph bytes answer = (chunks : List Chunk) × AreChunks 12 bytes chunks × (answer ≡ reading graph bytes chunks)
 
 -- the bytes of a frame, and of all frames together
 abbrev pub frame_size : Head → ℕ
@@ -77,8 +66,3 @@ pub record IsHead (head : Head) : Type 0 where
 -- the samples of a file under its head, interleaved and scaled to 32 bits
 abbrev pub recorded : Head → List ℕ → List ℤ
 recorded head bytes = samples_in head.bits (take (data_size head) (drop head.from bytes))
-
--- where the folder tells what it holds, the name has bytes that are no such file
-abbrev pub IsNoPlainFile : ℕ → List ℕ → Option Holding → Type 0
-IsNoPlainFile channels name None = ⊤
-IsNoPlainFile channels name (Some files) = (bytes : List ℕ) × (files name ≡ Some bytes) × ¬ IsPlainFile channels bytes

@@ -3,6 +3,7 @@
 ghost use Rattle.std.specs.Prelude.{◌≡◌};
 
 use gh_outside::Failed;
+use thiserror::Error;
 
 /// What the head of a file says of its frames.
 #[derive(Clone, Copy, Debug, PartialEq, Eq)]
@@ -19,11 +20,70 @@ pub struct Head {
     pub from: u64,
 }
 
-/// Why a file is not read.
-#[derive(Clone, Copy, Debug, PartialEq, Eq)]
+/// Why a file is not read, or not written.
+///
+/// Where several faults stand together the first of these is told.
+#[derive(Clone, Copy, Debug, PartialEq, Eq, Error)]
 pub enum WavFault {
-    /// The file is of another form than those that are read.
-    NotBuilt,
+    /// The file does not begin as RIFF/WAVE.
+    #[error("not a WAVE file")]
+    NotRiff,
+    /// There is no chunk of format, or its body is not wholly there.
+    #[error("no format")]
+    NoFormat,
+    /// The chunk of format has another size than 16, 18 or 40 bytes.
+    #[error("format of size {size}")]
+    FormatSize {
+        /// The size of its body, in bytes.
+        size: u32,
+    },
+    /// The samples are not linear PCM of 8, 16, 24 or 32 bits that are all valid.
+    #[error("tag {tag} with {bits} bits")]
+    Form {
+        /// The format's tag.
+        tag: u32,
+        /// Bits of a sample.
+        bits: u32,
+    },
+    /// There are not 1 to 1,000,000 frames for each second.
+    #[error("rate {got}")]
+    Rate {
+        /// Frames for each second.
+        got: u32,
+    },
+    /// The file has not the channels of the graph's input.
+    #[error("{file} channels for {graph}")]
+    Channels {
+        /// Channels of the file.
+        file: u32,
+        /// Channels of the graph's input.
+        graph: u32,
+    },
+    /// There is no chunk of data.
+    #[error("no data")]
+    NoData,
+    /// The data go on past the end of the file.
+    #[error("{wanted} bytes wanted, {there} there")]
+    Short {
+        /// The size of the data, in bytes.
+        wanted: u64,
+        /// Bytes from the beginning of the data to the end of the file.
+        there: u64,
+    },
+    /// The data are no whole number of frames.
+    #[error("{size} bytes in frames of {frame}")]
+    Ragged {
+        /// The size of the data, in bytes.
+        size: u64,
+        /// The size of a frame, in bytes.
+        frame: u64,
+    },
+    /// The frames of an output have more bytes than a WAV file can count. No reading call says so.
+    #[error("{bytes} bytes of output")]
+    TooLong {
+        /// The size of the frames, in bytes.
+        bytes: u64,
+    },
 }
 
 /// Why there is no head.
@@ -55,17 +115,26 @@ impl From<Failed> for HeadFault {
     }
 }
 
-// The marks of a file and of its chunks, as numbers whose lowest byte is the first character.
-pub(crate) const RIFF: u32 = 0x4646_4952;
+// The marks of a file and of its chunks.
+pub(crate) const RIFF: [u8; 4] = *b"RIFF";
 
-pub(crate) const WAVE: u32 = 0x4556_4157;
+pub(crate) const WAVE: [u8; 4] = *b"WAVE";
 
-pub(crate) const FORMAT: u32 = 0x2074_6d66;
+pub(crate) const FORMAT: [u8; 4] = *b"fmt ";
 
-pub(crate) const DATA: u32 = 0x6174_6164;
+pub(crate) const DATA: [u8; 4] = *b"data";
 
 /// The tag of PCM.
 pub(crate) const PCM: u16 = 1;
 
-/// The size of a chunk of format for PCM.
+/// The tag `WAVE_FORMAT_EXTENSIBLE`.
+pub(crate) const EXTENSIBLE: u16 = 0xfffe;
+
+/// The subformat `KSDATAFORMAT_SUBTYPE_PCM`.
+pub(crate) const PCM_SUBFORMAT: [u8; 16] = *b"\x01\0\0\0\0\0\x10\0\x80\0\0\xaa\0\x38\x9b\x71";
+
+/// The size of the chunk of format that is written.
 pub(crate) const FORMAT_SIZE: u32 = 16;
+
+/// The size of data whose writer left it open.
+pub(crate) const OPEN_SIZE: u32 = u32::MAX;

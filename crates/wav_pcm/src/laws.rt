@@ -1,8 +1,18 @@
 //! Laws of the definitions.
 
-ghost use Rattle.wav_pcm.specs.Laws.{WrittenIsReadBack};
+ghost use Rattle.wav_pcm.specs.Laws.{ReadingIsOne, FramesAreThere, WrittenIsReadBack};
 
-/// What is written of samples of 16 bits is a file that is read, and reads as the same samples.
+/// Every file is read in one way: as one head, or as one fault.
+pub fn reading_is_one()
+    ensures { ReadingIsOne }
+{}
+
+/// A head that is read has the graph's channels, and all its frames stand in the file.
+pub fn frames_are_there()
+    ensures { FramesAreThere }
+{}
+
+/// What is written of samples of a size is a file that is read, and reads as the same samples.
 pub fn written_is_read_back()
     ensures { WrittenIsReadBack }
 {}

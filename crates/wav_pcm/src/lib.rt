@@ -13,6 +13,9 @@
 //! says of a folder. No call takes memory.
 #![tactic(auto)]
 
+mod chunk;
+mod field;
+mod format;
 mod head;
 pub mod laws;
 mod reading;

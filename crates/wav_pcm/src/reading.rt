@@ -1,38 +1,42 @@
 //! Heads and frames are read.
 
-ghost use Rattle.std.specs.Prelude.{◌≡◌, ℕ, ◌≤◌, ◌<◌, ◌+◌, ◌-◌, ◌*◌, ◌/◌, ◌^◌, ◌⊎◌, ◌↔◌, length, take, drop, All, IfOk, OnOk, OnErr, IsTrue, slice_range};
-ghost use Rattle.byteorder.specs.Endian.{little_bytes};
+ghost use Rattle.std.specs.Prelude.{◌≡◌, ℕ, ◌≤◌, ◌<◌, ◌+◌, ◌-◌, ◌*◌, ◌/◌, ◌^◌, ◌⊎◌, length, All, Result, Ok, Err, IfOk, OnOk, OnErr, slice_range};
 ghost use Rattle.gh_outside.specs.Causes.{Rose, HasCause};
 ghost use Rattle.gh_outside.specs.Holdings.{IsMissing, IsPast, HeldBytes};
 ghost use Rattle.wav_pcm.specs.Samples.{IsScaled, samples_in};
-ghost use Rattle.wav_pcm.specs.Files.{mark_at, u16_at, u32_at, HasMarks, HasForm, IsPlainHead, IsPlainFile, head_in, plain_head, frame_size, data_size, IsHead, IsNoPlainFile, recorded};
+ghost use Rattle.wav_pcm.specs.Files.{is_wave_start, is_wave, frames_in, head_in, frame_size, data_size, IsHead, recorded, ReadsAs};
+ghost use Rattle.wav_pcm.specs.declared.head.WavFault.{WavFault};
 
-use crate::head::{DATA, FORMAT, FORMAT_SIZE, Head, HeadFault, PCM, RIFF, WAVE, WavFault};
+use crate::chunk::{Chunk, read_chunks};
+use crate::field::mark_at;
+use crate::format::{Format, read_format, whole_format};
+use crate::head::{Head, HeadFault, OPEN_SIZE, RIFF, WAVE, WavFault};
 use crate::sample::get_samples;
-use byteorder::{ByteOrder, LittleEndian};
 use gh_outside::{Failed, Folder};
 
-/// What the head of a file says, where the file has as many channels as the graph, from 1 to 32.
+/// What the head of a file says, for a graph whose input has so many channels, from 1 to 32.
 ///
-/// The form that is read has 44 bytes before the data: `RIFF` and `WAVE`, a chunk `fmt ` of 16 bytes
-/// with tag 1, a rate from 1 to 1,000,000 and 16 bits, and a chunk `data` of whole frames that goes to
-/// the end of the file. The sizes of the file, of a second and of a frame are not asked.
+/// A file is `RIFF`, a size that is not asked, `WAVE`, and chunks. The first chunk `fmt ` is the
+/// format: linear PCM of 8, 16, 24 or 32 bits, by tag 1 or by `WAVE_FORMAT_EXTENSIBLE`, with the
+/// graph's channels, at 1 to 1,000,000 frames for each second. The first chunk `data` holds the
+/// frames; a size of 2^32 - 1 was left open, and is what the file has. Other chunks are skipped.
 ///
 /// # Errors
 ///
-/// `Wav(NotBuilt)` where the file has another form, and `Failed` where the folder failed or does not
-/// hold the name.
+/// `Wav` with the first fault of the file, in the order of `WavFault`, and `Failed` where the folder
+/// failed or does not hold the name.
 pub fn read_head<F: Folder>(folder: &mut F, name: &str, graph: u32) -> Result<Head, HeadFault>
     requires least { 1 ≤ graph }
     requires most { graph ≤ 32 }
     ensures held { F.held folder.new ≡ F.held folder.old }
 
-    ensures plain { IfOk result (λ head. HeldBytes name.now (F.held folder.old)
-        (λ bytes. IsPlainFile graph bytes × (head ≡ plain_head graph bytes))) }
-    ensures head { IfOk result (λ head. IsHead head × (head.channels ≡ graph) × (head.bits ≡ 16)) }
+    ensures ok { IfOk result (λ head. HeldBytes name.now (F.held folder.old) (λ bytes. ReadsAs graph bytes (Ok head))) }
+    ensures head { IfOk result (λ head. IsHead head × (head.channels ≡ graph)) }
 
-    ensures not_built { result ≡ Err (HeadFault.Wav WavFault.NotBuilt)
-        → IsNoPlainFile graph name.now (F.held folder.old) }
+    ensures fault { (fault : WavFault) → result ≡ Err (HeadFault.Wav fault)
+        → HeldBytes name.now (F.held folder.old) (λ bytes. ReadsAs graph bytes (Err fault)) }
+    ensures never { (bytes : ℕ) → ¬ (result ≡ Err (HeadFault.Wav (WavFault.TooLong bytes))) }
+
     ensures failed { result ≡ Err HeadFault.Failed
         → IsMissing name.now (F.held folder.old) ⊎ Rose (F.read_faults folder.old) (F.read_faults folder.new) }
     ensures missed { IsMissing name.now (F.held folder.old)
@@ -41,13 +45,13 @@ pub fn read_head<F: Folder>(folder: &mut F, name: &str, graph: u32) -> Result<He
     ensures writes { F.write_faults folder.new ≡ F.write_faults folder.old }
 {
     let size = folder.length(name)?;
-    if size < 44 {
-        return Err(HeadFault::Wav(WavFault::NotBuilt));
+    if !read_is_wave(folder, name, size)? {
+        return Err(HeadFault::Wav(WavFault::NotRiff));
     }
-    let mut bytes = [0; 44];
-    folder.read_exact_at(name, 0, &mut bytes)?;
-    let head = head_in(graph, size, &bytes)?;
-    Ok(head)
+    let chunks = read_chunks(folder, name, size)?;
+    let chunk = whole_format(size, chunks.format)?;
+    let format = read_format(folder, name, &chunk)?.checked(graph)?;
+    Ok(head_in(size, &format, chunks.data)?)
 }
 
 /// Leaves in `into` the samples of as many frames as it holds, from frame `first` on, interleaved
@@ -87,82 +91,67 @@ pub fn read_frames<F: Folder>(
     Ok(())
 }
 
-/// What the first bytes of a file of this size say, if they are a head of these channels.
-fn head_in(channels: u32, size: u64, bytes: &[u8; 44]) -> Result<Head, WavFault>
-    requires least { 1 ≤ channels }
-    requires most { channels ≤ 32 }
-    requires whole { 44 ≤ size }
-    ensures ok { IfOk result (λ head. IsPlainHead channels size bytes.now × (head ≡ head_in channels size bytes.now)) }
-    ensures err { OnErr result (¬ IsPlainHead channels size bytes.now) }
+/// Whether a file of this size begins as RIFF/WAVE.
+fn read_is_wave<F: Folder>(folder: &mut F, name: &str, size: u64) -> Result<bool, Failed>
+    requires there { ¬ IsPast name.now size (F.held folder.old) }
+    ensures held { F.held folder.new ≡ F.held folder.old }
+    ensures wave { IfOk result (λ is. HeldBytes name.now (F.held folder.old) (λ bytes. size ≡ length bytes → is ≡ is_wave bytes)) }
+    ensures failed { OnErr result (Rose (F.read_faults folder.old) (F.read_faults folder.new)) }
+    ensures reads { F.read_faults folder.old ≤ F.read_faults folder.new }
+    ensures writes { F.write_faults folder.new ≡ F.write_faults folder.old }
 {
-    if !is_plain(channels, size, bytes) {
-        return Err(WavFault::NotBuilt);
+    if size < 12 {
+        return Ok(false);
     }
+    let mut start = [0; 12];
+    folder.read_exact_at(name, 0, &mut start)?;
+    Ok(is_wave_start(&start))
+}
+
+/// Whether these are the first bytes of RIFF/WAVE.
+fn is_wave_start(start: &[u8; 12]) -> bool
+    ensures { result ≡ is_wave_start start.now }
+{
+    mark_at(start, 0) == RIFF && mark_at(start, 8) == WAVE
+}
+
+/// The head by a format that is read and the chunk of data, in a file of this size.
+fn head_in(size: u64, format: &Format, chunk: Option<Chunk>) -> Result<Head, WavFault>
+    requires bits { 8 ≤ format.now.bits }
+    requires channels { 1 ≤ format.now.channels }
+    ensures { result ≡ head_in size format.now chunk }
+{
+    let Some(chunk) = chunk else {
+        return Err(WavFault::NoData);
+    };
+    let frame = u64::from(format.channels) * u64::from(format.bits / 8);
+    let frames = frames_in(frame, chunk.size, size.saturating_sub(chunk.from))?;
     Ok(Head {
-        channels,
-        rate: u32_at(bytes, 24),
-        bits: 16,
-        frames: (size - 44) / u64::from(2 * channels),
-        from: 44,
+        channels: u32::from(format.channels),
+        rate: format.rate,
+        bits: u32::from(format.bits),
+        frames,
+        from: chunk.from,
     })
 }
 
-/// Whether the first bytes of a file of this size are a head of these channels.
-fn is_plain(channels: u32, size: u64, bytes: &[u8; 44]) -> bool
-    requires least { 1 ≤ channels }
-    requires most { channels ≤ 32 }
-    requires whole { 44 ≤ size }
-    ensures { IsTrue result ↔ IsPlainHead channels size bytes.now }
+/// How many frames stand in data of a size, of which so many bytes are there.
+fn frames_in(frame: u64, size: u32, there: u64) -> Result<u64, WavFault>
+    requires { 1 ≤ frame }
+    ensures { result ≡ frames_in frame size there }
 {
-    let frame_size = u64::from(2 * channels);
-    let data_size = size - 44;
-    has_marks(bytes)
-        && has_form(bytes, channels)
-        && u64::from(u32_at(bytes, 40)) == data_size
-        && data_size.is_multiple_of(frame_size)
-}
-
-/// Whether the marks of a file and of its two chunks stand in their places.
-fn has_marks(bytes: &[u8; 44]) -> bool
-    ensures { IsTrue result ↔ HasMarks bytes.now }
-{
-    is_mark_at(bytes, 0, RIFF)
-        && is_mark_at(bytes, 8, WAVE)
-        && is_mark_at(bytes, 12, FORMAT)
-        && is_mark_at(bytes, 36, DATA)
-}
-
-/// Whether the chunk of format says PCM of 16 bits with these channels, at a rate that is read.
-fn has_form(bytes: &[u8; 44], channels: u32) -> bool
-    ensures { IsTrue result ↔ HasForm channels bytes.now }
-{
-    u32_at(bytes, 16) == FORMAT_SIZE
-        && u16_at(bytes, 20) == PCM
-        && u32::from(u16_at(bytes, 22)) == channels
-        && (1..=1_000_000).contains(&u32_at(bytes, 24))
-        && u16_at(bytes, 34) == 16
-}
-
-/// Whether the four characters at an offset are this mark.
-fn is_mark_at(bytes: &[u8; 44], from: usize, mark: u32) -> bool
-    requires { from + 4 ≤ 44 }
-    ensures { IsTrue result ↔ (mark_at from bytes.now ≡ little_bytes 4 mark) }
-{
-    u32_at(bytes, from) == mark
-}
-
-/// The number of 16 bits at an offset.
-fn u16_at(bytes: &[u8; 44], from: usize) -> u16
-    requires { from + 2 ≤ 44 }
-    ensures { result ≡ u16_at from bytes.now }
-{
-    LittleEndian::read_u16(&bytes[from..])
-}
-
-/// The number of 32 bits at an offset.
-fn u32_at(bytes: &[u8; 44], from: usize) -> u32
-    requires { from + 4 ≤ 44 }
-    ensures { result ≡ u32_at from bytes.now }
-{
-    LittleEndian::read_u32(&bytes[from..])
+    if size == OPEN_SIZE {
+        return Ok(there / frame);
+    }
+    let size = u64::from(size);
+    if there < size {
+        return Err(WavFault::Short {
+            wanted: size,
+            there,
+        });
+    }
+    if !size.is_multiple_of(frame) {
+        return Err(WavFault::Ragged { size, frame });
+    }
+    Ok(size / frame)
 }

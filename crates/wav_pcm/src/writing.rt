@@ -40,7 +40,7 @@ fn put_head(channels: u32, rate: u32, bits: u32, data_size: u32, into: &mut [u8;
 {
     put_riff(data_size, into);
     put_format(channels, rate, bits, &mut into[20..]);
-    LittleEndian::write_u32(&mut into[36..], DATA);
+    LittleEndian::write_u32(&mut into[36..], u32::from_le_bytes(DATA));
     LittleEndian::write_u32(&mut into[40..], data_size);
 }
 
@@ -50,10 +50,10 @@ fn put_riff(data_size: u32, into: &mut [u8])
     requires room { data_size ≤ 4294967258 }
     ensures { into.new ≡ riff_of data_size ++ drop 20 into.old }
 {
-    LittleEndian::write_u32(into, RIFF);
+    LittleEndian::write_u32(into, u32::from_le_bytes(RIFF));
     LittleEndian::write_u32(&mut into[4..], 36 + data_size + data_size % 2);
-    LittleEndian::write_u32(&mut into[8..], WAVE);
-    LittleEndian::write_u32(&mut into[12..], FORMAT);
+    LittleEndian::write_u32(&mut into[8..], u32::from_le_bytes(WAVE));
+    LittleEndian::write_u32(&mut into[12..], u32::from_le_bytes(FORMAT));
     LittleEndian::write_u32(&mut into[16..], FORMAT_SIZE);
 }
 

@@ -28,8 +28,8 @@ distances-requires-clause-reached c v l =
     let r = subst (λ x. IsResidual x c.args.flow.now c.in_ok-residual.residual.edges.items c.in_ok-residual.residual.steps.items) c.as_slice.ensures c.in_ok-residual.ensures.residual in
     subst (λ x. Reaches x c.args.from v) (sym c.deref.ensures.value) (residual_reached _ _ _ _ r c.args.from v (c.requires.network.connected c.args.from v c.requires.from l))
 
-pub returns : goal.returns
-returns c =
+pub returns-clause-search : goal.returns-clause-search
+returns-clause-search c =
     let net = c.args.net.now in
     let flow = c.args.flow.now in
     let edges = c.in_ok-residual.residual.edges.items in

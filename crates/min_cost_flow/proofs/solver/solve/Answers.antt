@@ -8,7 +8,7 @@ use Rattle.min_cost_flow.proofs.solver.solve.Goals as goal
 
 pub returns-clause-tight : goal.returns-clause-tight
 returns-clause-tight c =
-    let search = c.in_ok-walks.ensures in
+    let search = c.in_ok-walks.ensures.search in
     let least = c.in_ok-walks.walks.least.least in
     let is = c.in_ok-potential.ensures ∙ ap (map neg_ℤ) c.as_slice.ensures in
     let tight = subst (λ x. IsTight c.args.net.now.arcs x (potential_of least)) c.deref.ensures.value search.tight in
@@ -19,7 +19,7 @@ returns-clause-tight c =
 
 pub returns-clause-least : goal.returns-clause-least
 returns-clause-least c q root tight v l =
-    let search = c.in_ok-walks.ensures in
+    let search = c.in_ok-walks.ensures.search in
     let least = c.in_ok-walks.walks.least.least in
     let is = c.in_ok-potential.ensures ∙ ap (map neg_ℤ) c.as_slice.ensures in
     let same = ap (λ x. number_of x v) is ∙ number_of-map_neg least v in

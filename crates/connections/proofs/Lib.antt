@@ -1,0 +1,5 @@
+pub mod NodeFacts
+pub mod JointFacts
+pub mod LimitFacts
+pub mod FaultFacts
+pub mod FirstFaults

@@ -1,0 +1,5 @@
+use Rattle.connections.proofs.FirstFaults.{first_fault_is_unique}
+use Rattle.connections.proofs.laws.first_fault_is_unique.Goals as goal
+
+pub returns : goal.returns
+returns c = first_fault_is_unique

@@ -1,0 +1,3 @@
+pub mod Faults
+pub mod Facts
+pub mod Laws

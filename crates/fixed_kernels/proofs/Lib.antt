@@ -1,0 +1,10 @@
+pub mod SumLaws
+pub mod WindowLaws
+pub mod ChannelFacts
+pub mod LineFacts
+pub mod KernelFacts
+pub mod GainFacts
+pub mod MixerFacts
+pub mod HoldFacts
+pub mod FirFacts
+pub mod BiquadFacts

@@ -1,0 +1,11 @@
+use Rattle.std.proofs.Common.{rules, arith, ◌≡◌, ◌≤◌, ◌+◌, ◌^◌, ℤ, FitsSigned, to_z, of_z}
+use Rattle.std.specs.Int.{w128}
+use Rattle.std.proofs.lemmas.Int.{ints, to_z-of_z, fits_signed_from_abs}
+use Rattle.fixed_kernels.proofs.SumLaws.{abs-sub}
+use Rattle.fixed_kernels.proofs.products.minus_product.Goals as goal
+
+pub overflow_sub-result : goal.overflow_sub-result
+overflow_sub-result c =
+    let fits : FitsSigned w128 c.product.result = search rules in
+    rw (to_z-of_z w128 c.args.sum c.ranges.sum, to_z-of_z w128 c.product.result fits)
+    (fits_signed_from_abs w128 _ (omega (arith, abs-sub c.args.sum c.product.result, c.product.ensures.size, c.requires)))

@@ -1,0 +1,123 @@
+ghost use Rattle.std.specs.Prelude.{◌≡◌, ℕ, ◌<◌, ◌≤◌, ◌∷◌, [], IfOk, length, pos, replicate, slice_index_or};
+ghost use Rattle.graph_model.specs.Histories.{History, newest};
+ghost use Rattle.graph_model.specs.Kinds.{ins_of, outs_of, stream_of};
+ghost use Rattle.graph_model.specs.Ranges.{HasRange};
+ghost use Rattle.fixed_kernels.specs.Kernels.{IsBoundOf, IsFrameWithin, Stands};
+ghost use Rattle.fixed_kernels.specs.Sections.{AreStepped, next_out, section_kind, silent_tail, tail_at};
+ghost use Rattle.fixed_kernels.specs.Types.{IsBiquad};
+
+use crate::bounds::copy_of;
+use crate::section::{Section, Tail};
+use graph_model::{Bound, Kind};
+use std::alloc::{AllocError, Global};
+use std::marker::Model;
+
+/// A second-order section on each channel, whose clamped output is fed back.
+#[derive(Drop)]
+pub struct Biquad {
+    section: Section,
+    bound: Bound,
+    tails: Vec<Tail>,
+}
+
+impl Model for Biquad {
+    ghost use Rattle.fixed_kernels.specs.Kernels.{KernelState, IsKernel};
+    ghost use Rattle.fixed_kernels.specs.States.{biquad_state};
+
+    ghost Value = { KernelState };
+
+    ghost view = { λ k. biquad_state k.section k.bound k.tails.items };
+
+    ghost invariant = { λ k. IsKernel (biquad_state k.section k.bound k.tails.items) };
+}
+
+impl Biquad {
+    /// A section that nothing has come into. It fails only for want of memory.
+    pub fn make(alloc: Global, kind: &Kind, bound: &Bound) -> Result<Self, AllocError>
+        requires kind { IsBiquad kind.now }
+        requires range { HasRange kind.now }
+        requires bound { IsBoundOf kind.now bound.now }
+        ensures kind { IfOk result (λ k. k.kind ≡ kind.now) }
+        ensures bound { IfOk result (λ k. k.bound ≡ bound.now) }
+        ensures stands { IfOk result (λ k. Stands k []) }
+    {
+        let tails = silent_tails(alloc, kind.ins() as usize)?;
+        Ok(Biquad {
+            section: section_of(kind),
+            bound: copy_of(alloc, bound)?,
+            tails,
+        })
+    }
+
+    /// Takes a frame, one sample for each channel, and gives the frame that goes out then.
+    pub fn frame(&mut self, ins: &[i64], outs: &mut [i64])
+        requires ins { length ins.now ≡ ins_of self.old.kind }
+        requires outs { length outs.old ≡ outs_of self.old.kind }
+        requires within { IsFrameWithin self.old.bound.ins ins.now }
+        ensures stands { (h : History) → Stands self.old h → Stands self.new (ins.now ∷ h) }
+        ensures last { (h : History) → Stands self.old h → outs.new ≡ newest (stream_of self.old.kind (ins.now ∷ h)) }
+        ensures within { IsFrameWithin self.old.bound.outs outs.new }
+        ensures kind { self.new.kind ≡ self.old.kind }
+        ensures bound { self.new.bound ≡ self.old.bound }
+    {
+        step_each(&self.section, &mut self.tails, ins, outs);
+    }
+}
+
+/// The section of a biquad's parameters.
+fn section_of(kind: &Kind) -> Section
+    requires { IsBiquad kind.now }
+    ensures { section_kind (ins_of kind.now) result ≡ kind.now }
+{
+    match kind {
+        Kind::Biquad {
+            b0,
+            b1,
+            b2,
+            a1,
+            a2,
+            shift,
+            bits,
+            ..
+        } => Section {
+            b0: *b0,
+            b1: *b1,
+            b2: *b2,
+            a1: *a1,
+            a2: *a2,
+            shift: *shift,
+            bits: *bits,
+        },
+        _ => unreachable!(),
+    }
+}
+
+/// Zeros for each channel.
+fn silent_tails(alloc: Global, channels: usize) -> Result<Vec<Tail>, AllocError>
+    ensures { IfOk result (λ tails. tails.items ≡ replicate channels silent_tail) }
+{
+    let mut tails = Vec::new(alloc);
+    for _ in 0..channels {
+        tails.push(Tail {
+            x1: 0,
+            x2: 0,
+            y1: 0,
+            y2: 0,
+        })?;
+    }
+    Ok(tails)
+}
+
+/// Steps each channel by its sample.
+fn step_each(section: &Section, tails: &mut [Tail], ins: &[i64], outs: &mut [i64])
+    requires shift { section.now.shift ≤ 30 }
+    requires bits { section.now.bits ≤ 40 }
+    requires ins { length ins.now ≡ length tails.old }
+    requires outs { length outs.old ≡ length tails.old }
+    ensures tails { AreStepped section.now tails.old ins.now tails.new }
+    ensures values { (c : ℕ) → c < length tails.old → slice_index_or outs.new c (pos 0) ≡ next_out section.now (tail_at tails.old c) (slice_index_or ins.now c (pos 0)) }
+{
+    for c in 0..tails.len() {
+        outs[c] = section.step(&mut tails[c], ins[c]);
+    }
+}

@@ -1,0 +1,129 @@
+ghost use Rattle.std.specs.Prelude.{◌≡◌, ℕ, ◌<◌, ◌≤◌, ◌^◌, ◌∷◌, [], IfOk, length, pos, slice_index_or, unsigned_abs};
+ghost use Rattle.graph_model.specs.Filters.{filtered, products};
+ghost use Rattle.graph_model.specs.Histories.{History, newest};
+ghost use Rattle.graph_model.specs.Kinds.{ins_of, outs_of, stream_of};
+ghost use Rattle.graph_model.specs.Ranges.{HasRange};
+ghost use Rattle.fixed_kernels.specs.Kernels.{IsBoundOf, IsFrameWithin, Stands};
+ghost use Rattle.fixed_kernels.specs.Lines.{AreFull, ArePushed, line_at, pushed};
+ghost use Rattle.fixed_kernels.specs.Types.{IsFir};
+
+use crate::bounds::copy_of;
+use crate::lines::{Line, silent_lines};
+use crate::products::sum_of_products;
+use graph_model::{Bound, Kind, List, rs};
+use std::alloc::{AllocError, Global};
+use std::marker::Model;
+
+/// A finite impulse response on each channel, over a delay line as long as its taps.
+#[derive(Drop)]
+pub struct Fir {
+    taps: List<i32>,
+    shift: u32,
+    latency: u32,
+    bound: Bound,
+    lines: Vec<Line>,
+}
+
+impl Model for Fir {
+    ghost use Rattle.std.specs.Prelude.{length};
+    ghost use Rattle.fixed_kernels.specs.Kernels.{KernelState, IsKernel};
+    ghost use Rattle.fixed_kernels.specs.Lines.{AreFull};
+    ghost use Rattle.fixed_kernels.specs.States.{fir_state};
+
+    ghost Value = { KernelState };
+
+    ghost view = { λ k. fir_state k.taps k.shift k.latency k.bound k.lines.items };
+
+    ghost invariant = { λ k. IsKernel (fir_state k.taps k.shift k.latency k.bound k.lines.items) × AreFull (length k.taps) k.lines.items };
+}
+
+impl Fir {
+    /// A filter that nothing has come into. It fails only for want of memory.
+    pub fn make(alloc: Global, kind: &Kind, bound: &Bound) -> Result<Self, AllocError>
+        requires kind { IsFir kind.now }
+        requires range { HasRange kind.now }
+        requires bound { IsBoundOf kind.now bound.now }
+        ensures kind { IfOk result (λ k. k.kind ≡ kind.now) }
+        ensures bound { IfOk result (λ k. k.bound ≡ bound.now) }
+        ensures stands { IfOk result (λ k. Stands k []) }
+    {
+        let Kind::Fir {
+            channels,
+            taps,
+            shift,
+            latency,
+        } = kind
+        else {
+            unreachable!()
+        };
+        let lines = silent_lines(alloc, *channels as usize, taps.len())?;
+        Ok(Fir {
+            taps: taps.copy(alloc)?,
+            shift: *shift,
+            latency: *latency,
+            bound: copy_of(alloc, bound)?,
+            lines,
+        })
+    }
+
+    /// Takes a frame, one sample for each channel, and gives the frame that goes out then.
+    pub fn frame(&mut self, ins: &[i64], outs: &mut [i64])
+        requires ins { length ins.now ≡ ins_of self.old.kind }
+        requires outs { length outs.old ≡ outs_of self.old.kind }
+        requires within { IsFrameWithin self.old.bound.ins ins.now }
+        ensures stands { (h : History) → Stands self.old h → Stands self.new (ins.now ∷ h) }
+        ensures last { (h : History) → Stands self.old h → outs.new ≡ newest (stream_of self.old.kind (ins.now ∷ h)) }
+        ensures within { IsFrameWithin self.old.bound.outs outs.new }
+        ensures kind { self.new.kind ≡ self.old.kind }
+        ensures bound { self.new.bound ≡ self.old.bound }
+    {
+        filter_each(
+            self.taps.as_slice(),
+            self.shift,
+            &mut self.lines,
+            ins,
+            outs,
+        );
+    }
+}
+
+/// Puts the sample of each channel into its line, and filters the line.
+fn filter_each(taps: &[i32], shift: u32, lines: &mut [Line], ins: &[i64], outs: &mut [i64])
+    requires full { AreFull (length taps.now) lines.old }
+    requires few { length taps.now ≤ 2 ^ 12 }
+    requires shift { shift ≤ 30 }
+    requires ins { length ins.now ≡ length lines.old }
+    requires outs { length outs.old ≡ length lines.old }
+    requires fits { (c : ℕ) → c < length lines.old → unsigned_abs (filtered taps.now shift (pushed (slice_index_or ins.now c (pos 0)) (line_at lines.old c)).items) ≤ 2 ^ 46 }
+    ensures lines { ArePushed lines.old ins.now lines.new }
+    ensures values { (c : ℕ) → c < length lines.old → slice_index_or outs.new c (pos 0) ≡ filtered taps.now shift (pushed (slice_index_or ins.now c (pos 0)) (line_at lines.old c)).items }
+{
+    for c in 0..lines.len() {
+        let line = &mut lines[c];
+        let _ = line.push_front(ins[c]);
+        outs[c] = filter(taps, shift, line);
+    }
+}
+
+/// The sum of the taps times the samples of a full line, the newest first, rounded.
+fn filter(taps: &[i32], shift: u32, line: &Line) -> i64
+    requires length { length line.now.items ≡ length taps.now }
+    requires few { length taps.now ≤ 2 ^ 12 }
+    requires shift { shift ≤ 30 }
+    requires fits { unsigned_abs (filtered taps.now shift line.now.items) ≤ 2 ^ 46 }
+    ensures { result ≡ filtered taps.now shift line.now.items }
+{
+    rs(weigh(taps, line), shift) as i64
+}
+
+/// The sum of the taps times the samples.
+fn weigh(taps: &[i32], line: &Line) -> i128
+    requires length { length line.now.items ≡ length taps.now }
+    requires few { length taps.now ≤ 2 ^ 12 }
+    ensures value { result ≡ products taps.now line.now.items }
+    ensures size { unsigned_abs result ≤ 2 ^ 120 }
+{
+    let (newer, older) = line.as_slices();
+    let (first, rest) = taps.split_at(newer.len());
+    sum_of_products(first, newer) + sum_of_products(rest, older)
+}

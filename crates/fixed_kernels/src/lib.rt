@@ -1,0 +1,31 @@
+//! The processors whose parameters stay as they are: gain, mixer, finite impulse response, biquad, delay and insert.
+//!
+//! Each kernel is made of a kind and of bounds for its samples, and takes the frames of a stream one by one. It keeps
+//! what the kind keeps of the frames that came in, and so stands for their history: that is one relation for all of
+//! them, `Stands`, over the definitions of `graph_model`. The filters are those of Oppenheim and Schafer, Discrete-Time
+//! Signal Processing: the finite impulse response as a sum of products over a delay line, the biquad in direct form 1.
+//!
+//! It promises that a kernel is made for the empty history, and that each frame that goes out is the last one of the
+//! kind's stream of what came in, for every history; that no output passes its bound where no input does, and that no
+//! sum and no cast loses anything; that a frame takes no memory and is never refused.
+//!
+//! It stands on `graph_model`, and on `circular_buffer` for the delay lines.
+#![tactic(auto)]
+
+mod biquad;
+mod bounds;
+mod fir;
+mod gain;
+mod hold;
+mod lines;
+mod mixer;
+mod products;
+mod section;
+#[cfg(test)]
+mod tests;
+
+pub use biquad::Biquad;
+pub use fir::Fir;
+pub use gain::Gain;
+pub use hold::Hold;
+pub use mixer::Mixer;

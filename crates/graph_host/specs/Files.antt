@@ -1,0 +1,23 @@
+-- The output file as it is made and written.
+use Rattle.std.specs.Prelude.{◌≡◌, ◌*◌, ◌/◌, ◌%◌, ℕ, ℤ, List, ◌++◌, length, replicate}
+use Rattle.graph_model.specs.Histories.{frames_of, interleaved}
+use Rattle.graph_model.specs.Answers.{answer}
+use Rattle.graph_model.specs.declared.graph.Graph.{Graph}
+use Rattle.wav_pcm.specs.Heads.{wave_file_of}
+use Rattle.wav_pcm.specs.Samples.{IsSize, bytes_of}
+use Rattle.graph_host.specs.Outputs.{in_channels}
+use Rattle.graph_host.specs.declared.forms.Form.{Form}
+use Rattle.graph_host.specs.declared.output.OutputFile.{OutputFile}
+
+-- the head, the frames, and a byte 0 where the bytes of the frames are odd in number
+abbrev pub file_of : OutputFile → List ℕ
+file_of o = o.head ++ bytes_of o.bits o.samples ++ replicate (length o.samples * (o.bits / 8) % 2) 0
+
+-- there is room for the bytes of the frames
+pub record HasRoom (o : OutputFile) : Type 0 where
+  pub size : IsSize o.bits
+  pub room : length o.bytes.items ≡ length o.samples * (o.bits / 8)
+
+-- the graph's answer to these samples, in this form
+abbrev pub rendered : Graph → Form → List ℤ → List ℕ
+rendered g form samples = wave_file_of form.channels form.rate form.bits (interleaved (answer g (frames_of (in_channels g) samples)))

@@ -1,0 +1,56 @@
+//! The form of the output file.
+
+ghost use Rattle.std.specs.Prelude.{◌≡◌, ◌*◌, ◌/◌, ◌<◌, ◌≤◌, ◌^◌};
+ghost use Rattle.wav_pcm.specs.Files.{IsHead};
+ghost use Rattle.graph_host.specs.Forms.{HasSize, IsForm, IsFormOf};
+ghost use Rattle.graph_host.specs.Requests.{request_in};
+
+use crate::channels::{latency, output_channels};
+use crate::request::RenderRequest;
+use connections::Checked;
+use wav_pcm::Head;
+
+/// How many samples the output has, and how they are written.
+#[derive(Clone, Copy)]
+pub(crate) struct Form {
+    /// Samples of a frame, from 1 to 32.
+    pub(crate) channels: u32,
+    /// Frames for each second.
+    pub(crate) rate: u32,
+    /// Bits of a sample: 8, 16, 24 or 32.
+    pub(crate) bits: u32,
+    /// How many frames of silence come after the input.
+    pub(crate) silent: u128,
+    /// How many frames there are, of the input and of silence.
+    pub(crate) frames: u128,
+}
+
+impl Form {
+    /// The bytes of all frames.
+    pub(crate) fn data_bytes(&self) -> u128
+        requires channels { self.now.channels ≤ 32 }
+        requires bits { self.now.bits ≤ 32 }
+        requires frames { self.now.frames < 2 ^ 66 }
+        ensures { result ≡ self.now.frames * (self.now.channels * (self.now.bits / 8)) }
+    {
+        self.frames * (self.channels * (self.bits / 8)) as u128
+    }
+}
+
+/// The form of the output of a request, for the head of its input.
+pub(crate) fn output_form(graph: &Checked, request: &RenderRequest, head: &Head) -> Form
+    requires head { IsHead head.now }
+    requires size { HasSize request.now.bits }
+    ensures good { IsForm result }
+    ensures form { IsFormOf (request_in request.now) graph.now head.now result }
+    ensures few { result.frames < 2 ^ 66 }
+{
+    let silent = latency(graph) as u128 + request.tail as u128;
+    Form {
+        channels: output_channels(graph),
+        rate: head.rate,
+        bits: request.bits.unwrap_or(head.bits),
+        silent,
+        frames: head.frames as u128 + silent,
+    }
+}

@@ -1,0 +1,5 @@
+use Rattle.graph_records.proofs.ReadBack.{written_back}
+use Rattle.graph_records.proofs.laws.written_is_read.Goals as goal
+
+pub returns : goal.returns
+returns c = λ g few typed. written_back g few typed

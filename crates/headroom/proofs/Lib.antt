@@ -1,0 +1,7 @@
+pub mod OutputFacts
+pub mod BoundFacts
+pub mod LoudFacts
+pub mod FoundFacts
+pub mod GraphTests
+pub mod TestGraphs
+pub mod Examples

@@ -1,0 +1,4 @@
+pub mod Loud
+pub mod Answers
+pub mod Laws
+pub mod Found

@@ -1,0 +1,121 @@
+//! The limiter.
+
+ghost use Rattle.std.specs.Prelude.{◌≡◌, ℕ, ◌<◌, ◌≤◌, ◌^◌, [], ◌∷◌, ◌*ℤ◌, IfOk, int_div, length, pos, slice_index_or, unsigned_abs};
+ghost use Rattle.std.specs.List.{All};
+ghost use Rattle.graph_model.specs.Histories.{History, ago, newest, sample};
+ghost use Rattle.graph_model.specs.Kinds.{ins_of, latency_of, outs_of, stream_of};
+ghost use Rattle.graph_model.specs.Ranges.{HasRange};
+ghost use Rattle.limiter_kernel.specs.Kernels.{IsBoundOf, IsFrameWithin, Stands};
+ghost use Rattle.limiter_kernel.specs.Lines.{ArePushed, line_at, pushed};
+ghost use Rattle.limiter_kernel.specs.Types.{IsLimiter, threshold_of};
+
+use crate::average::MovingAverage;
+use crate::gain::{UNITY, limited_sample, scale_of};
+use crate::lines::{Line, delayed_sample, silent_lines};
+use crate::minimum::SlidingMinimum;
+use graph_model::{Bound, Kind};
+use std::alloc::{AllocError, Global};
+use std::marker::Model;
+
+/// Turns a frame down before a peak comes out: a look-ahead limiter. The output is late by the lookahead, in frames.
+#[derive(Drop)]
+pub struct Limiter {
+    threshold: u64,
+    lookahead: u32,
+    /// How large the samples can be, as it was given to `make`.
+    bound: Bound,
+    /// The input frames of the lookahead and one more, a line for each channel.
+    lines: Vec<Line>,
+    /// The scales of those frames.
+    scales: SlidingMinimum,
+    /// The least scales of the last windows.
+    lowests: MovingAverage,
+}
+
+impl Model for Limiter {
+    ghost use Rattle.limiter_kernel.specs.Kernels.{KernelState};
+    ghost use Rattle.limiter_kernel.specs.States.{AreLimiterFields, limiter_state};
+
+    ghost Value = { KernelState };
+
+    ghost view = { λ k. limiter_state k.threshold k.lookahead k.bound k.lines.items k.lowests };
+
+    ghost invariant = { λ k. AreLimiterFields k.threshold k.lookahead k.bound k.lines.items k.scales k.lowests };
+}
+
+impl Limiter {
+    /// A limiter that nothing has come into, with bounds in the units of the samples. It takes all its memory here, and
+    /// fails only for want of it.
+    pub fn make(alloc: Global, kind: &Kind, bound: &Bound) -> Result<Self, AllocError>
+        requires kind { IsLimiter kind.now }
+        requires range { HasRange kind.now }
+        requires bound { IsBoundOf kind.now bound.now }
+        ensures kind { IfOk result (λ k. k.kind ≡ kind.now) }
+        ensures bound { IfOk result (λ k. k.bound ≡ bound.now) }
+        ensures stands { IfOk result (λ k. Stands k []) }
+    {
+        let Kind::Limiter {
+            channels,
+            threshold,
+            lookahead,
+        } = kind
+        else {
+            unreachable!()
+        };
+        let frames = *lookahead as usize + 1;
+        Ok(Limiter {
+            threshold: *threshold,
+            lookahead: *lookahead,
+            bound: copy_of(alloc, bound)?,
+            lines: silent_lines(alloc, *channels as usize, frames)?,
+            scales: SlidingMinimum::new(alloc, frames, UNITY)?,
+            lowests: MovingAverage::new(alloc, frames, UNITY)?,
+        })
+    }
+
+    /// Takes a frame, one sample for each channel, and gives the frame that goes out then: the one that came the
+    /// lookahead before, times the gain. It takes no memory.
+    pub fn frame(&mut self, ins: &[i64], outs: &mut [i64])
+        requires ins { length ins.now ≡ ins_of self.old.kind }
+        requires outs { length outs.old ≡ outs_of self.old.kind }
+        requires within { IsFrameWithin self.old.bound.ins ins.now }
+        ensures stands { (h : History) → Stands self.old h → Stands self.new (ins.now ∷ h) }
+        ensures last { (h : History) → Stands self.old h → outs.new ≡ newest (stream_of self.old.kind (ins.now ∷ h)) }
+        ensures within { IsFrameWithin self.old.bound.outs outs.new }
+        ensures kind { self.new.kind ≡ self.old.kind }
+        ensures bound { self.new.bound ≡ self.old.bound }
+
+        // No output exceeds the threshold, nor the sample that it is made of.
+        ensures threshold { All (λ y. unsigned_abs y ≤ threshold_of self.old.kind) outs.new }
+        ensures quieter { (h : History) → Stands self.old h → (c : ℕ) → unsigned_abs (slice_index_or outs.new c (pos 0)) ≤ unsigned_abs (sample (ins.now ∷ h) c (latency_of self.old.kind)) }
+    {
+        let lowest = self.scales.push(scale_of(self.threshold, ins));
+        let gain = self.lowests.push(lowest);
+        limit_each(&mut self.lines, self.lookahead, gain, ins, outs);
+    }
+}
+
+/// Equal bounds.
+fn copy_of(alloc: Global, bound: &Bound) -> Result<Bound, AllocError>
+    ensures { IfOk result (λ copy. copy ≡ bound.now) }
+{
+    Ok(Bound {
+        ins: bound.ins.copy(alloc)?,
+        outs: bound.outs.copy(alloc)?,
+    })
+}
+
+/// Puts the sample of each channel into its line, and gives the one that came the lookahead before, times the gain.
+fn limit_each(lines: &mut [Line], lookahead: u32, gain: u64, ins: &[i64], outs: &mut [i64])
+    requires gain { gain ≤ 2 ^ 30 }
+    requires ins { length ins.now ≡ length lines.old }
+    requires outs { length outs.old ≡ length lines.old }
+    requires small { (c : ℕ) → c < length lines.old → unsigned_abs (ago (pushed (slice_index_or ins.now c (pos 0)) (line_at lines.old c)).items lookahead) ≤ 2 ^ 46 }
+    ensures lines { ArePushed lines.old ins.now lines.new }
+    ensures values { (c : ℕ) → c < length lines.old → slice_index_or outs.new c (pos 0) ≡ int_div (ago (pushed (slice_index_or ins.now c (pos 0)) (line_at lines.old c)).items lookahead *ℤ pos gain) (pos (2 ^ 30)) }
+{
+    for c in 0..lines.len() {
+        let delayed = delayed_sample(&mut lines[c], ins[c], lookahead as usize);
+        outs[c] = limited_sample(delayed, gain);
+    }
+}
