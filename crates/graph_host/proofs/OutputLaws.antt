@@ -33,11 +33,11 @@ whole_frames g frames samples whole = ap (λ n. n % in_channels g) whole ∙ mul
 -- a sample has bytes
 pub some_bytes : (bits : ℕ) → IsSize bits → 1 ≤ bits / 8
 some_bytes bits size = elim size [
-    | inl e ↦ rw e (omega arith)
-    | inr (inl e) ↦ rw e (omega arith)
-    | inr (inr (inl e)) ↦ rw e (omega arith)
-    | inr (inr (inr e)) ↦ rw e (omega arith)
-  ]
+  | inl e ↦ rw e (omega arith)
+  | inr (inl e) ↦ rw e (omega arith)
+  | inr (inr (inl e)) ↦ rw e (omega arith)
+  | inr (inr (inr e)) ↦ rw e (omega arith)
+]
 
 -- no more frames than bytes
 pub few_frames : (form : Form) → IsForm form → form.frames * (form.channels * (form.bits / 8)) ≤ 4294967258 → form.frames ≤ 4294967258
@@ -62,11 +62,11 @@ pub file_is : (g : Graph) (form : Form) (samples made : List ℤ) (head : List �
 file_is g form samples made head some channels whole is said =
     let answered = interleaved (answer g (frames_of (in_channels g) samples)) in
     let count : length answered ≡ form.frames * form.channels =
-        length-answer g (frames_of (in_channels g) samples)
-        ∙ ap (λ n. n * out_channels g) (length-frames_of (in_channels g) form.frames samples (omega arith) whole)
-        ∙ ap (λ n. form.frames * n) (sym channels) in
+    length-answer g (frames_of (in_channels g) samples)
+    ∙ ap (λ n. n * out_channels g) (length-frames_of (in_channels g) form.frames samples (omega arith) whole)
+    ∙ ap (λ n. form.frames * n) (sym channels) in
     let bytes : form.frames * (form.channels * (form.bits / 8)) ≡ length answered * (form.bits / 8) =
-        sym (mul_assoc form.frames form.channels (form.bits / 8)) ∙ ap (λ n. n * (form.bits / 8)) (sym count) in
+    sym (mul_assoc form.frames form.channels (form.bits / 8)) ∙ ap (λ n. n * (form.bits / 8)) (sym count) in
     ap (λ h. h ++ bytes_of form.bits made ++ replicate (length made * (form.bits / 8) % 2) 0) said
     ∙ ap (λ n. head_of form.channels form.rate form.bits n ++ bytes_of form.bits made ++ replicate (length made * (form.bits / 8) % 2) 0) bytes
     ∙ ap (λ xs. head_of form.channels form.rate form.bits (length answered * (form.bits / 8)) ++ bytes_of form.bits xs ++ replicate (length xs * (form.bits / 8) % 2) 0) is
@@ -96,9 +96,9 @@ pub output_is : (q : Request) (g : Graph) (head : Head) (form : Form) (recorded 
     → rendered g form samples ≡ output_of q g head recorded
 output_is q g head form recorded samples some of whole silent =
     let answers : interleaved (answer g (frames_of (in_channels g) samples)) ≡ answered g (silent_frames q g) recorded =
-        ap (λ xs. interleaved (answer g (frames_of (in_channels g) xs))) silent
-        ∙ ap (λ h. interleaved (answer g h)) (with_silence (in_channels g) head.frames form.silent recorded (omega arith) whole)
-        ∙ ap (λ k. answered g k recorded) of.silent in
+    ap (λ xs. interleaved (answer g (frames_of (in_channels g) xs))) silent
+    ∙ ap (λ h. interleaved (answer g h)) (with_silence (in_channels g) head.frames form.silent recorded (omega arith) whole)
+    ∙ ap (λ k. answered g k recorded) of.silent in
     ap (λ xs. wave_file_of form.channels form.rate form.bits xs) answers
     ∙ ap (λ n. wave_file_of n form.rate form.bits (answered g (silent_frames q g) recorded)) of.channels
     ∙ ap (λ n. wave_file_of (out_channels g) n form.bits (answered g (silent_frames q g) recorded)) of.rate

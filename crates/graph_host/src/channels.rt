@@ -25,14 +25,22 @@ fn is_output(node: &Node) -> bool
 fn input_index(graph: &Graph) -> Option<usize>
     ensures { result ≡ position (λ n. is_input_kind n.kind) graph.now.nodes }
 {
-    graph.nodes.as_slice().iter().position(|node| is_input(node))
+    graph
+        .nodes
+        .as_slice()
+        .iter()
+        .position(|node| is_input(node))
 }
 
 /// The index of the first output node.
 fn output_index(graph: &Graph) -> Option<usize>
     ensures { result ≡ position (λ n. is_output_kind n.kind) graph.now.nodes }
 {
-    graph.nodes.as_slice().iter().position(|node| is_output(node))
+    graph
+        .nodes
+        .as_slice()
+        .iter()
+        .position(|node| is_output(node))
 }
 
 /// The channels of the input node.

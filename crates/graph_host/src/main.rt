@@ -71,6 +71,5 @@ fn ended<R: Eprint>(rt: &R, run: Run) -> ExitCode {
     ExitCode::from(run.status)
 }
 
-
 #[cfg(test)]
 mod tests;

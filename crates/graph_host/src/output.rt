@@ -51,7 +51,13 @@ pub(crate) fn rendered_file(
     let samples = answer(alloc, graph, recording.samples.as_slice())?;
     let bytes = vec![in alloc; 0u8; samples.len() * (form.bits as usize / 8)]?;
     let mut head = [0; 44];
-    head_bytes(form.channels, form.rate, form.bits, form.frames as u64, &mut head);
+    head_bytes(
+        form.channels,
+        form.rate,
+        form.bits,
+        form.frames as u64,
+        &mut head,
+    );
     Ok(OutputFile {
         head,
         samples,
@@ -61,11 +67,7 @@ pub(crate) fn rendered_file(
 }
 
 /// Appends the frames of the output, if there are any.
-fn append_frames<F: Folder>(
-    folder: &mut F,
-    name: &str,
-    file: &mut OutputFile,
-) -> Result<(), Failed>
+fn append_frames<F: Folder>(folder: &mut F, name: &str, file: &mut OutputFile) -> Result<(), Failed>
     requires { HasRoom file.old }
     ensures others { KeepsOthers name.now (F.held folder.old) (F.held folder.new) }
     ensures ok { OnOk result (IsAppended name.now (bytes_of file.old.bits file.old.samples) (F.held folder.old) (F.held folder.new)) }
@@ -78,7 +80,13 @@ fn append_frames<F: Folder>(
     if file.samples.len() == 0 {
         return Ok(());
     }
-    put_frames(folder, name, file.bits, file.samples.as_slice(), &mut file.bytes)
+    put_frames(
+        folder,
+        name,
+        file.bits,
+        file.samples.as_slice(),
+        &mut file.bytes,
+    )
 }
 
 /// Appends a byte 0 after an odd number of bytes.

@@ -92,13 +92,7 @@ pub(crate) fn request(words: &[String]) -> Option<RenderRequest<'_>>
         return None;
     }
     let (tail, bits) = options_in(options)?;
-    names(
-        graph.as_str(),
-        input.as_str(),
-        output.as_str(),
-        tail,
-        bits,
-    )
+    names(graph.as_str(), input.as_str(), output.as_str(), tail, bits)
 }
 
 /// A request of three names, none of them an option.

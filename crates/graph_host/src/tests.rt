@@ -12,9 +12,13 @@ use std::thread::Threads;
 const STRAIGHT: &[u8] =
     b"{\"FILTERGRAPH\":{\"CONNECTION\":[{\"dstChannel\":0,\"dstFilter\":2,\"srcChannel\":0,\"srcFilter\":1}],\"FILTER\":[{\"channels\":1,\"kind\":\"input\",\"uid\":1},{\"channels\":1,\"kind\":\"output\",\"uid\":2}]}}";
 
-/// A gain of one half between input and output, which stands before the output in the records.
+/// A gain of one half between input and output, whose records stand in another order than they are rendered in.
 const HALF: &[u8] =
-    b"{\"FILTERGRAPH\":{\"FILTER\":[{\"uid\":1,\"kind\":\"input\",\"channels\":1},{\"uid\":3,\"kind\":\"gain\",\"channels\":1,\"gain\":32768},{\"uid\":2,\"kind\":\"output\",\"channels\":1}],\"CONNECTION\":[{\"srcFilter\":1,\"srcChannel\":0,\"dstFilter\":3,\"dstChannel\":0},{\"srcFilter\":3,\"srcChannel\":0,\"dstFilter\":2,\"dstChannel\":0}]}}";
+    b"{\"FILTERGRAPH\":{\"FILTER\":[{\"uid\":2,\"kind\":\"output\",\"channels\":1},{\"uid\":3,\"kind\":\"gain\",\"channels\":1,\"gain\":32768},{\"uid\":1,\"kind\":\"input\",\"channels\":1}],\"CONNECTION\":[{\"srcFilter\":3,\"srcChannel\":0,\"dstFilter\":2,\"dstChannel\":0},{\"srcFilter\":1,\"srcChannel\":0,\"dstFilter\":3,\"dstChannel\":0}]}}";
+
+/// Both channels of the input summed into the one of the output.
+const SUM: &[u8] =
+    b"{\"FILTERGRAPH\":{\"FILTER\":[{\"uid\":1,\"kind\":\"input\",\"channels\":2},{\"uid\":2,\"kind\":\"output\",\"channels\":1}],\"CONNECTION\":[{\"srcFilter\":1,\"srcChannel\":0,\"dstFilter\":2,\"dstChannel\":0},{\"srcFilter\":1,\"srcChannel\":1,\"dstFilter\":2,\"dstChannel\":0}]}}";
 
 /// The samples 100, -200, 300 of 16 bits, mono, 48,000 frames a second.
 const THREE_FRAMES: &[u8] =
@@ -30,6 +34,28 @@ const SMALL_HALVED: &[u8] =
 /// A file without frames.
 const NO_FRAMES: &[u8] =
     b"RIFF\x24\0\0\0WAVEfmt \x10\0\0\0\x01\0\x01\0\x80\xBB\0\0\0\x77\x01\0\x02\0\x10\0data\0\0\0\0";
+
+/// The frames (100, -3) and (5, 6), and their sums 97 and 11.
+const TWO_CHANNELS: &[u8] =
+    b"RIFF\x2C\0\0\0WAVEfmt \x10\0\0\0\x01\0\x02\0\x80\xBB\0\0\0\xEE\x02\0\x04\0\x10\0data\x08\0\0\0\x64\0\xFD\xFF\x05\0\x06\0";
+
+const SUMMED: &[u8] =
+    b"RIFF\x28\0\0\0WAVEfmt \x10\0\0\0\x01\0\x01\0\x80\xBB\0\0\0\x77\x01\0\x02\0\x10\0data\x04\0\0\0\x61\0\x0B\0";
+
+/// One frame of 8 bits, the greatest sample, and its pad byte.
+const ONE_BYTE: &[u8] =
+    b"RIFF\x26\0\0\0WAVEfmt \x10\0\0\0\x01\0\x01\0\x80\xBB\0\0\x80\xBB\0\0\x01\0\x08\0data\x01\0\0\0\xFF\0";
+
+/// The samples 128, 127, -128 of 24 bits, and 1, 0, 0, to which they are rounded in 16 bits.
+const OF_24_BITS: &[u8] =
+    b"RIFF\x2E\0\0\0WAVEfmt \x10\0\0\0\x01\0\x01\0\x80\xBB\0\0\x80\x32\x02\0\x03\0\x18\0data\x09\0\0\0\x80\0\0\x7F\0\0\x80\xFF\xFF\0";
+
+const IN_16_BITS: &[u8] =
+    b"RIFF\x2A\0\0\0WAVEfmt \x10\0\0\0\x01\0\x01\0\x80\xBB\0\0\0\x77\x01\0\x02\0\x10\0data\x06\0\0\0\x01\0\0\0\0\0";
+
+/// The samples 100, -200, 300 and a tail of two zeros.
+const WITH_TAIL: &[u8] =
+    b"RIFF\x2E\0\0\0WAVEfmt \x10\0\0\0\x01\0\x01\0\x80\xBB\0\0\0\x77\x01\0\x02\0\x10\0data\x0A\0\0\0\x64\0\x38\xFF\x2C\x01\0\0\0\0";
 
 /// A folder with a graph and a file, and with room for an output, in which these calls fail.
 fn folder(
@@ -70,18 +96,25 @@ fn run_line<R: Abort + Threads + Sync + AllocGlobal>(
 
 const RENDER: &str = "render g.json in.wav out.wav";
 
+const TAIL: &str = "render g.json in.wav out.wav --tail 2";
+
+const BITS: &str = "render g.json in.wav out.wav --bits 16";
+
 #[test]
 fn examples_in_their_bytes(rt: HostRuntime) -> Result<(), Fail> {
     let cases = [
-        (STRAIGHT, THREE_FRAMES, THREE_FRAMES),
-        (STRAIGHT, NO_FRAMES, NO_FRAMES),
-        (HALF, SMALL, SMALL_HALVED),
-        (HALF, NO_FRAMES, NO_FRAMES),
+        (RENDER, STRAIGHT, THREE_FRAMES, THREE_FRAMES),
+        (RENDER, STRAIGHT, NO_FRAMES, NO_FRAMES),
+        (RENDER, STRAIGHT, ONE_BYTE, ONE_BYTE),
+        (RENDER, HALF, SMALL, SMALL_HALVED),
+        (RENDER, SUM, TWO_CHANNELS, SUMMED),
+        (BITS, STRAIGHT, OF_24_BITS, IN_16_BITS),
+        (TAIL, STRAIGHT, THREE_FRAMES, WITH_TAIL),
     ];
-    for (graph, input, output) in cases {
+    for (line, graph, input, output) in cases {
         let mut folder = folder(rt.alloc(), graph, input, &[])?;
         folder.put_file("out.wav", b"what was there before")?;
-        let run = run_line(&rt, &mut folder, RENDER)?;
+        let run = run_line(&rt, &mut folder, line)?;
         assert_eq!(rt;
             run,
             Run {
@@ -99,28 +132,32 @@ fn examples_in_their_bytes(rt: HostRuntime) -> Result<(), Fail> {
 #[test]
 fn each_call_of_the_folder_fails_in_turn(rt: HostRuntime) -> Result<(), Fail> {
     // the number of the call, the status, how much of the output is there, and the faults of reading and writing
-    let cases: [(u64, u8, Option<usize>, u64, u64); 9] = [
+    let cases: [(u64, u8, Option<usize>, u64, u64); 13] = [
         (0, 5, None, 1, 0),
         (1, 5, None, 1, 0),
         (2, 5, None, 1, 0),
         (3, 5, None, 1, 0),
         (4, 5, None, 1, 0),
-        (5, 6, None, 0, 1),
-        (6, 6, Some(22), 0, 1),
-        (7, 6, Some(47), 0, 1),
-        (8, 0, Some(50), 0, 0),
+        (5, 5, None, 1, 0),
+        (6, 5, None, 1, 0),
+        (7, 5, None, 1, 0),
+        (8, 6, None, 0, 1),
+        (9, 6, Some(22), 0, 1),
+        (10, 6, Some(44), 0, 1),
+        (11, 6, Some(45), 0, 1),
+        (12, 0, Some(46), 0, 0),
     ];
     for (call, status, kept, read_faults, write_faults) in cases {
-        let mut folder = folder(rt.alloc(), STRAIGHT, THREE_FRAMES, &[call])?;
+        let mut folder = folder(rt.alloc(), STRAIGHT, ONE_BYTE, &[call])?;
         let run = run_line(&rt, &mut folder, RENDER)?;
         assert_eq!(rt; run.status, status, "call {call}");
         assert_eq!(rt;
             folder.file("out.wav"),
-            kept.and_then(|kept| THREE_FRAMES.get(..kept)),
+            kept.and_then(|kept| ONE_BYTE.get(..kept)),
             "call {call}"
         );
         assert_eq!(rt; folder.file("g.json"), Some(STRAIGHT), "call {call}");
-        assert_eq!(rt; folder.file("in.wav"), Some(THREE_FRAMES), "call {call}");
+        assert_eq!(rt; folder.file("in.wav"), Some(ONE_BYTE), "call {call}");
         assert_eq!(rt; folder.read_faults(), read_faults, "call {call}");
         assert_eq!(rt; folder.write_faults(), write_faults, "call {call}");
     }
@@ -147,38 +184,40 @@ fn a_room_too_small_for_the_frames(rt: HostRuntime) -> Result<(), Fail> {
     Ok(())
 }
 
+/// An insert, which is sound and not built yet.
+const INSERT: &[u8] =
+    b"{\"FILTERGRAPH\":{\"FILTER\":[{\"uid\":1,\"kind\":\"input\",\"channels\":1},{\"uid\":2,\"kind\":\"output\",\"channels\":1},{\"uid\":3,\"kind\":\"insert\",\"channels\":1,\"samples\":5}]}}";
+
+/// A node that no connection can reach.
+const NO_NODE: &[u8] =
+    b"{\"FILTERGRAPH\":{\"FILTER\":[{\"uid\":1,\"kind\":\"input\",\"channels\":1},{\"uid\":2,\"kind\":\"output\",\"channels\":1}],\"CONNECTION\":[{\"srcFilter\":1,\"srcChannel\":0,\"dstFilter\":9,\"dstChannel\":0}]}}";
+
 #[test]
 fn refusals_leave_everything(rt: HostRuntime) -> Result<(), Fail> {
-    let stereo =
-        b"RIFF\x24\0\0\0WAVEfmt \x10\0\0\0\x01\0\x02\0\x80\xBB\0\0\0\xEE\x02\0\x04\0\x10\0data\0\0\0\0";
-    let cases: [(&str, &[u8], &[u8], u8, &str); 10] = [
+    let words = "the words are no request";
+    let cases: [(&str, &[u8], &[u8], u8, &str); 13] = [
+        ("render", STRAIGHT, THREE_FRAMES, 2, words),
+        ("render -g in.wav out.wav", STRAIGHT, THREE_FRAMES, 2, words),
         (
-            "render",
+            "render g.json in.wav out.wav --bits 12",
             STRAIGHT,
             THREE_FRAMES,
             2,
-            "the words are no request",
+            words,
+        ),
+        (
+            "render g.json in.wav out.wav --bits 16 --tail 1",
+            STRAIGHT,
+            THREE_FRAMES,
+            2,
+            words,
         ),
         (
             "render g.json in.wav in.wav",
             STRAIGHT,
             THREE_FRAMES,
             2,
-            "the words are no request",
-        ),
-        (
-            "render -g in.wav out.wav",
-            STRAIGHT,
-            THREE_FRAMES,
-            2,
-            "the words are no request",
-        ),
-        (
-            "compile g.json in.wav out.wav",
-            STRAIGHT,
-            THREE_FRAMES,
-            2,
-            "the words are no request",
+            "input and output have the same name",
         ),
         (
             "render none in.wav out.wav",
@@ -194,10 +233,30 @@ fn refusals_leave_everything(rt: HostRuntime) -> Result<(), Fail> {
             5,
             "a read failed",
         ),
-        (RENDER, b"{", THREE_FRAMES, 10, "not built yet"),
-        (RENDER, STRAIGHT, b"RIFF", 10, "not built yet"),
-        (RENDER, STRAIGHT, stereo.as_slice(), 10, "not built yet"),
-        (RENDER, STRAIGHT, &THREE_FRAMES[..49], 10, "not built yet"),
+        (RENDER, b"{", THREE_FRAMES, 3, "graph: no JSON text"),
+        (
+            RENDER,
+            NO_NODE,
+            THREE_FRAMES,
+            3,
+            "graph: connection 0: no node 9",
+        ),
+        (RENDER, INSERT, THREE_FRAMES, 10, "not built yet"),
+        (RENDER, STRAIGHT, b"RIFF", 4, "wav: not a WAVE file"),
+        (
+            RENDER,
+            STRAIGHT,
+            &THREE_FRAMES[..49],
+            4,
+            "wav: 6 bytes wanted, 5 there",
+        ),
+        (
+            "render g.json in.wav out.wav --tail 2147483629",
+            STRAIGHT,
+            THREE_FRAMES,
+            4,
+            "wav: 4294967264 bytes of output",
+        ),
     ];
     for (line, graph, input, status, text) in cases {
         let mut folder = folder(rt.alloc(), graph, input, &[])?;

@@ -1,6 +1,6 @@
 -- What a route brings, added frame by frame.
-use Rattle.std.proofs.Common.{◌≡◌, ◌≢◌, ℕ, zero, suc, ◌+◌, ◌-◌, ◌*◌, ◌^◌, ◌<◌, ◌≤◌, Bool, List, length, get_or, set, ℤ, pos, ◌+ℤ◌, nat_le, cond, refl, sym, ◌∙◌, ap, subst, arith, inl, inr, true, false, unsigned_abs, to_z, of_z, w64}
-use Rattle.std.proofs.lemmas.Bool.{cases_lt, cases_eq, le-leb, leb-true}
+use Rattle.std.proofs.Common.{◌≡◌, ◌≢◌, ℕ, ◌+◌, ◌-◌, ◌*◌, ◌^◌, ◌<◌, ◌≤◌, Bool, List, length, get_or, set, ℤ, pos, ◌+ℤ◌, nat_le, cond, refl, sym, ◌∙◌, ap, subst, arith, inl, inr, true, false, unsigned_abs, to_z, of_z, w64}
+use Rattle.std.proofs.lemmas.Bool.{cases_lt, le-leb, leb-true}
 use Rattle.std.proofs.lemmas.Int.{ints}
 use Rattle.std.proofs.lemmas.List.{get_or-set_same, get_or-set_other}
 use Rattle.std.proofs.lemmas.Nat.{same_from_place}

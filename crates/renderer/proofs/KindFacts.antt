@@ -1,18 +1,16 @@
 -- What goes out of a node, by its kind.
-use Rattle.std.proofs.Common.{◌≡◌, ℕ, ◌+◌, ◌*◌, ◌%◌, ◌^◌, ◌<◌, ◌≤◌, List, [], length, get_or, ℤ, refl, sym, ◌∙◌, ap, subst, arith, true, false}
-use Rattle.std.specs.List.{All}
+use Rattle.std.proofs.Common.{◌≡◌, ℕ, ◌+◌, ◌*◌, ◌%◌, ◌^◌, ◌<◌, List, [], length, get_or, ℤ, refl, sym, ◌∙◌, ap, subst, arith, false}
 use Rattle.std.proofs.lemmas.Bool.{false≢true}
 use Rattle.std.proofs.lemmas.List.{get_or_default}
 use Rattle.std.proofs.lemmas.List.Elements.{All-from_recursion}
 use Rattle.std.proofs.lemmas.Nat.{mod-mul-add}
-use Rattle.graph_model.specs.Histories.{History, frames_of, interleaved}
+use Rattle.graph_model.specs.Histories.{frames_of, interleaved}
 use Rattle.graph_model.specs.Kinds.{ins_of, stream_of}
 use Rattle.graph_model.specs.Graphs.{is_input, ins_at}
 use Rattle.graph_model.specs.Paths.{reach}
 use Rattle.graph_model.specs.Ranges.{HasRange}
 use Rattle.graph_model.specs.Answers.{given_by, incoming, outgoing, sum_into}
 use Rattle.graph_model.proofs.BlockLaws.{interleaved_are_frames}
-use Rattle.graph_model.proofs.HistoryLaws.{length-history_of}
 use Rattle.graph_model.specs.declared.kind.Kind.{Kind}
 use Rattle.graph_model.specs.declared.kind.Kind.TheVariants.{Input, Output, Gain, Mixer, Fir, Biquad, Limiter, Delay, Insert}
 use Rattle.graph_model.specs.declared.graph.Node.{Node}

@@ -7,3 +7,4 @@ pub mod OutgoingFacts
 pub mod SumFacts
 pub mod KindFacts
 pub mod OrderSteps
+pub mod Examples

@@ -1,7 +1,7 @@
 -- The nodes of a sound graph, by name and by index.
 use Rattle.std.proofs.Common.{◌≡◌, ℕ, zero, suc, ◌+◌, ◌<◌, List, [], ◌∷◌, length, get_or, refl, sym, ◌∙◌, ap, subst, Bool, true, false, cond, arith, Option, Some, None, ◌==◌, inl, inr, Bor}
 use Rattle.std.specs.Prelude.{IsSome, count_by, ◌≢◌}
-use Rattle.std.specs.List.{find, All, AllByRecursion, position, position_or_len, slice_get}
+use Rattle.std.specs.List.{find, AllByRecursion, position, position_or_len, slice_get}
 use Rattle.std.specs.Option.{is_some, option_copied}
 use Rattle.std.proofs.lemmas.Bool.{eqb-true, false≢true, lt-ltb}
 use Rattle.std.proofs.lemmas.List.{get_or-map}
@@ -11,7 +11,7 @@ use Rattle.std.proofs.lemmas.List.Quantifiers.{position-Some}
 use Rattle.std.proofs.lemmas.List.Sums.{position_or_len_is, sum_by-cons}
 use Rattle.std.proofs.lemmas.Option.{slice_get-get_or, slice_get_cases, slice_get_within, get_or_from_slice_get}
 use Rattle.graph_model.specs.Kinds.{ins_of, outs_of, latency_of}
-use Rattle.graph_model.specs.Graphs.{IsNode, or_zero, node_named, ins_at, outs_at, latency_at, is_input, input_name, name_or_zero}
+use Rattle.graph_model.specs.Graphs.{or_zero, node_named, ins_at, outs_at, latency_at, is_input, input_name, name_or_zero}
 use Rattle.graph_model.specs.Members.{bad_member}
 use Rattle.graph_model.specs.Ranges.{IsInRange, HasRange}
 use Rattle.graph_model.specs.Sound.{IsSound}
@@ -154,8 +154,7 @@ module _ (g : Graph) (sound : IsSound g) where
   -- the first input node's channels are those of the input, and there are some
   pub input_found : (node : Node) → find (λ n. is_input n.kind) g.nodes ≡ Some node → (outs_of node.kind ≡ outs_at g (input_name g)) × (0 < outs_of node.kind)
   input_found node found =
-      let is = find-all (λ n. is_input n.kind) (λ n. bad_member n ≡ None) g.nodes node (recursion_from_All _ g.nodes sound.shaped.in_range) found in
-      (
+      let is = find-all (λ n. is_input n.kind) (λ n. bad_member n ≡ None) g.nodes node (recursion_from_All _ g.nodes sound.shaped.in_range) found in (
         sym (ap (λ o. outs_at g (name_or_zero o)) found ∙ ap (or_zero outs_of) (found_named (λ n. is_input n.kind) node found)),
         some_outs node.kind (in_range node is.0).1 is.1,
       )
@@ -178,8 +177,7 @@ module _ (g : Graph) (sound : IsSound g) where
       let s : slice_get g.nodes (position_or_len (λ n. n.uid.0 == v) g.nodes) ≡ Some node = sym (find_at (λ n. n.uid.0 == v) g.nodes) ∙ e in
       let i = position_or_len (λ (n : Node). n.uid.0 == v) g.nodes in
       let lt : position_or_len (λ n. n.uid.0 == v) g.nodes < length g.nodes = slice_get_within g.nodes (position_or_len (λ n. n.uid.0 == v) g.nodes) node s in
-      let here : get_or g.nodes (position_or_len (λ n. n.uid.0 == v) g.nodes) node ≡ node = get_or_from_slice_get g.nodes (position_or_len (λ n. n.uid.0 == v) g.nodes) node node s in
-      (
+      let here : get_or g.nodes (position_or_len (λ n. n.uid.0 == v) g.nodes) node ≡ node = get_or_from_slice_get g.nodes (position_or_len (λ n. n.uid.0 == v) g.nodes) node node s in (
         position_or_len (λ n. n.uid.0 == v) g.nodes,
         lt,
         get_or-map (λ (n : Node). n.uid.0) g.nodes (position_or_len (λ n. n.uid.0 == v) g.nodes) node 0 lt ∙ ap (λ (n : Node). n.uid.0) here ∙ name_of v node e,

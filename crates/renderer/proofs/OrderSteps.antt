@@ -1,7 +1,6 @@
 -- The streams of the nodes, found in their order.
-use Rattle.std.proofs.Common.{◌≡◌, ℕ, ◌+◌, ◌<◌, ◌≤◌, List, [], length, map, get_or, set, ℤ, sym, ◌∙◌, ap, subst, arith, inl, inr}
-use Rattle.std.proofs.lemmas.Bool.{cases_lt, cases_eq}
-use Rattle.std.proofs.lemmas.List.{get_or-map, get_or-set_same, get_or-set_other, length-map, length-set}
+use Rattle.std.proofs.Common.{◌≡◌, ℕ, ◌<◌, ◌≤◌, List, length, map, get_or, ℤ, sym, ◌∙◌, ap, subst, arith}
+use Rattle.std.proofs.lemmas.List.{get_or-map, length-map}
 use Rattle.graph_model.specs.Orders.{StandsBefore}
 use Rattle.topology.specs.Named.{uid_at}
 use Rattle.topology.specs.Answers.{IsOrderOfNodes}
@@ -9,7 +8,7 @@ use Rattle.topology.proofs.LinkFacts.{any_connection}
 use Rattle.topology.proofs.NameFacts.{is_node}
 use Rattle.topology.proofs.OrderFacts.{stands_index}
 use Rattle.renderer.specs.Routes.{IsRoute}
-use Rattle.renderer.specs.Evaluations.{IsEvaluation, HasStream, HasSources, HasAll, outgoing_at}
+use Rattle.renderer.specs.Evaluations.{IsEvaluation, HasStream, HasSources, HasAll}
 use Rattle.renderer.specs.declared.evaluation.Evaluation.{Evaluation}
 use Rattle.renderer.proofs.NodeFacts.{named}
 
@@ -33,27 +32,6 @@ module _ (e : Evaluation) (s : IsEvaluation e) (os : List ℕ) (order : IsOrderO
       subst (StandsBefore (map (uid_at e.graph.now) os) k) (sym is.source_name) ready in
       let before = stands_index e.graph.now (named e.graph.now s.sound) os order.indexes k (get_or e.routes.items m d).src (omega arith) is.source stands in
       subst (HasStream e streams) before.2 (are.done before.0 before.1)
-
-  -- one node more
-  pub found_more : (k : ℕ) (streams : List (List ℤ)) (x : List ℤ) → k < length os → AreFound e os k streams → x ≡ outgoing_at e (get_or os k 0) → AreFound e os (k + 1) (set streams (get_or os k 0) x)
-  found_more k streams x lt are is = record {
-    count = length-set streams (get_or os k 0) x ∙ are.count;
-    done = λ j lj.
-        elim (cases_eq (get_or os j 0) (get_or os k 0)) [
-          | inl same ↦ subst (HasStream e (set streams (get_or os k 0) x)) (sym same) written
-          | inr other ↦ get_or-set_other streams (get_or os k 0) (get_or os j 0) x [] other ∙ are.done j (earlier j lj other)
-        ];
-  }
-    where
-      written : HasStream e (set streams (get_or os k 0) x) (get_or os k 0)
-      written = get_or-set_same streams (get_or os k 0) x [] (let l = order.indexes k 0 lt in let n = are.count in omega arith) ∙ is
-
-      earlier : (j : ℕ) → j < k + 1 → (get_or os j 0 ≡ get_or os k 0 → ⊥) → j < k
-      earlier j lj other =
-          elim (cases_lt j k) [
-            | inl before ↦ before
-            | inr past ↦ (let here : j ≡ k = omega arith in absurd (other (ap (λ i. get_or os i 0) here)))
-          ]
 
   -- all nodes stand in the order
   pub found_all : (k : ℕ) (streams : List (List ℤ)) → length os ≤ k → AreFound e os k streams → HasAll e streams

@@ -1,15 +1,15 @@
 -- What goes out of the nodes of a graph and what comes into them: how long, how wide and how large.
-use Rattle.std.proofs.Common.{◌≡◌, ℕ, zero, suc, ◌+◌, ◌-◌, ◌*◌, ◌/◌, ◌^◌, ◌<◌, ◌≤◌, List, [], ◌∷◌, ◌++◌, length, get_or, replicate, ℤ, pos, refl, sym, ◌∙◌, ap, subst, arith, inl, inr, Option, Some, None, true, false, unsigned_abs}
+use Rattle.std.proofs.Common.{◌≡◌, ℕ, zero, suc, ◌+◌, ◌-◌, ◌*◌, ◌^◌, ◌<◌, ◌≤◌, List, [], ◌∷◌, length, get_or, pos, refl, sym, ◌∙◌, ap, subst, arith, inl, inr, Some, None, true, unsigned_abs}
 use Rattle.std.specs.List.{All}
 use Rattle.std.proofs.lemmas.Bool.{cases_lt, false≢true}
 use Rattle.std.proofs.lemmas.List.{get_or_past, get_or_default, get_or-replicate}
 use Rattle.std.proofs.lemmas.List.Elements.{All-append}
-use Rattle.graph_model.specs.Histories.{Frame, History, sample, frames_of, interleaved}
+use Rattle.graph_model.specs.Histories.{History, sample, interleaved}
 use Rattle.graph_model.specs.Kinds.{outs_of}
 use Rattle.graph_model.specs.Graphs.{node_named, is_input, input_name, ins_at, outs_at}
 use Rattle.graph_model.specs.Paths.{reach, depth}
 use Rattle.graph_model.specs.Answers.{given, given_by, incoming, outgoing, sum_into}
-use Rattle.graph_model.specs.Bounds.{bounds, out_bounds, IsBounded, IsWithin, IsInputFor}
+use Rattle.graph_model.specs.Bounds.{bounds, out_bounds, IsBounded, IsInputFor}
 use Rattle.graph_model.proofs.AnswerLaws.{out-solves}
 use Rattle.graph_model.proofs.BlockLaws.{length-frames_of, frames_are_interleaved}
 use Rattle.graph_model.proofs.BoundLaws.{samples_are_bounded}
@@ -21,9 +21,9 @@ use Rattle.graph_model.specs.declared.graph.Node.{Node}
 use Rattle.topology.specs.Named.{uid_at}
 use Rattle.topology.proofs.NameFacts.{any_node, name_is}
 use Rattle.renderer.specs.Samples.{AreUpTo}
-use Rattle.renderer.specs.Evaluations.{IsEvaluation, input_of, incoming_at, outgoing_at}
+use Rattle.renderer.specs.Evaluations.{IsEvaluation, input_of, incoming_at}
 use Rattle.renderer.specs.declared.evaluation.Evaluation.{Evaluation}
-use Rattle.renderer.proofs.Interleaving.{AreWide, wide-frames_of, wide-history_of, get_or-interleaved, in_frame}
+use Rattle.renderer.proofs.Interleaving.{AreWide, wide-frames_of, get_or-interleaved}
 use Rattle.renderer.proofs.NodeFacts.{input_some, input_is, node_is, index_of, outs_is}
 use Rattle.renderer.proofs.StreamFacts.{wide-given, long-given}
 

@@ -1,15 +1,13 @@
 -- The routes of a sound graph's connections.
-use Rattle.std.proofs.Common.{◌≡◌, ℕ, ◌+◌, ◌-◌, ◌<◌, ◌≤◌, List, [], ◌∷◌, ◌++◌, length, map, get_or, inl, inr, sym, ◌∙◌, ap, subst, arith, Option, Some, ◌==◌}
+use Rattle.std.proofs.Common.{◌≡◌, ℕ, ◌+◌, ◌-◌, ◌<◌, ◌≤◌, List, [], ◌∷◌, ◌++◌, length, get_or, inl, inr, sym, ◌∙◌, ap, subst, arith, Some, ◌==◌}
 use Rattle.std.specs.Prelude.{IsSome}
 use Rattle.std.specs.List.{position, Contains}
-use Rattle.std.specs.Option.{is_some}
 use Rattle.std.proofs.lemmas.Bool.{cases_lt}
-use Rattle.std.proofs.lemmas.List.{get_or-map, get_or_default, get_or_append_left, get_or_push, length_push}
+use Rattle.std.proofs.lemmas.List.{get_or_default, get_or_append_left, get_or_push, length_push}
 use Rattle.std.proofs.lemmas.List.Elements.{All-contains}
 use Rattle.graph_model.specs.Kinds.{ins_of, outs_of, latency_of}
 use Rattle.graph_model.specs.Graphs.{IsNode, ins_at, outs_at, latency_at}
 use Rattle.graph_model.specs.Paths.{reach, depth}
-use Rattle.graph_model.specs.Answers.{delay}
 use Rattle.graph_model.specs.Sound.{IsSound}
 use Rattle.graph_model.proofs.RankLaws.{nodes_exist, sound_is_ranked}
 use Rattle.graph_model.proofs.ReachLaws.{reach_after}
@@ -17,7 +15,6 @@ use Rattle.graph_model.specs.declared.graph.Connection.{Connection}
 use Rattle.graph_model.specs.declared.graph.Node.{Node}
 use Rattle.graph_model.specs.declared.graph.Graph.{Graph}
 use Rattle.topology.specs.Named.{uid_at}
-use Rattle.topology.specs.Reaches.{AreReaches}
 use Rattle.topology.proofs.NameFacts.{any_node}
 use Rattle.renderer.specs.Routes.{IsRoute, AreRoutes}
 use Rattle.renderer.specs.declared.routes.Route.{Route}

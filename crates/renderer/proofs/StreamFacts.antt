@@ -1,5 +1,5 @@
 -- The streams of the kinds, interleaved.
-use Rattle.std.proofs.Common.{◌≡◌, ℕ, ◌+◌, ◌*◌, ◌/◌, ◌%◌, ◌<◌, List, [], ◌∷◌, ◌++◌, length, map, get_or, ℤ, pos, refl, sym, ◌∙◌, ap, subst, arith, true, false}
+use Rattle.std.proofs.Common.{◌≡◌, ℕ, ◌*◌, ◌/◌, ◌%◌, ◌<◌, List, [], ◌∷◌, ◌++◌, length, map, get_or, ℤ, pos, refl, sym, ◌∙◌, ap, subst, arith, true, false}
 use Rattle.std.specs.Prelude.{◌*ℤ◌}
 use Rattle.std.specs.List.{range_with_len}
 use Rattle.std.proofs.lemmas.Bool.{false≢true}
@@ -7,7 +7,7 @@ use Rattle.std.proofs.lemmas.List.{map-append, append-nil, length-map, get_or-ma
 use Rattle.std.proofs.lemmas.List.FromFn.{length-map-range_with_len, fill_by_all}
 use Rattle.std.proofs.lemmas.Nat.{div-add-mod'}
 use Rattle.graph_model.specs.Rounding.{rounded}
-use Rattle.graph_model.specs.Histories.{Frame, History, frames_of, interleaved, on_each}
+use Rattle.graph_model.specs.Histories.{Frame, History, frames_of, interleaved}
 use Rattle.graph_model.specs.StreamLaws.{length-each}
 use Rattle.graph_model.specs.Kinds.{ins_of, outs_of, rule_of, stream_of}
 use Rattle.graph_model.specs.Graphs.{is_input}

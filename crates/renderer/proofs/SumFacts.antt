@@ -1,7 +1,7 @@
 -- What comes into a node, one connection after another.
-use Rattle.std.proofs.Common.{◌≡◌, ◌≢◌, ℕ, zero, suc, ◌+◌, ◌-◌, ◌*◌, ◌/◌, ◌%◌, ◌^◌, ◌<◌, ◌≤◌, List, [], ◌∷◌, ◌++◌, length, get_or, take, map, replicate, ℤ, pos, ◌+ℤ◌, refl, sym, ◌∙◌, ap, subst, arith, inl, inr, Bool, true, false, cond, ◌==◌, ◌&&◌, unsigned_abs}
-use Rattle.std.specs.List.{filter, range_with_len}
-use Rattle.std.proofs.lemmas.Bool.{cases_lt, cases_eq, eqb-true, eq-eqb, false≢true}
+use Rattle.std.proofs.Common.{◌≡◌, ◌≢◌, ℕ, ◌+◌, ◌-◌, ◌*◌, ◌/◌, ◌%◌, ◌^◌, ◌<◌, ◌≤◌, List, [], ◌∷◌, ◌++◌, length, get_or, take, replicate, ℤ, pos, ◌+ℤ◌, refl, sym, ◌∙◌, ap, subst, arith, inl, inr, Bool, true, false, cond, ◌==◌, ◌&&◌, unsigned_abs}
+use Rattle.std.specs.List.{filter}
+use Rattle.std.proofs.lemmas.Bool.{cases_lt, cases_eq, eqb-true, eq-eqb}
 use Rattle.std.proofs.lemmas.Int.{ints}
 use Rattle.std.proofs.lemmas.List.{append-nil, get_or_default, get_or-replicate, length-replicate, take_all, length-take}
 use Rattle.std.proofs.lemmas.List.Elements.{filter_more}
@@ -11,7 +11,7 @@ use Rattle.std.proofs.Math.Nat.{mul-le-mul_right}
 use Rattle.graph_model.specs.Histories.{sample, history_of, interleaved}
 use Rattle.graph_model.specs.Graphs.{ins_at, outs_at}
 use Rattle.graph_model.specs.Paths.{reach}
-use Rattle.graph_model.specs.Answers.{delay, sum_of, sum_into, outgoing, incoming}
+use Rattle.graph_model.specs.Answers.{delay, sum_of, sum_into, outgoing}
 use Rattle.graph_model.proofs.HistoryLaws.{sample-past}
 use Rattle.graph_model.proofs.PathLaws.{and_both}
 use Rattle.graph_model.specs.declared.graph.Connection.{Connection}

@@ -25,7 +25,11 @@ impl<'a> Evaluation<'a> {
     ghost use Rattle.renderer.specs.Evaluations.{IsEvaluation, HasAll, HasSources, incoming_at, outgoing_at};
 
     /// Whole frames of the graph's input node.
-    pub(crate) fn new(alloc: Global, graph: &'a Checked, input: &'a [i64]) -> Result<Self, AllocError>
+    pub(crate) fn new(
+        alloc: Global,
+        graph: &'a Checked,
+        input: &'a [i64],
+    ) -> Result<Self, AllocError>
         requires built { AreBuilt graph.now }
         requires whole { length input.now % outs_at graph.now (input_name graph.now) ≡ 0 }
         requires small { AreUpTo (2 ^ 31) input.now }

@@ -1,7 +1,15 @@
 //! The samples that a graph makes of its input, on whole streams.
 //!
-//! [`answer_in`] evaluates a sound graph node by node in their order, each node at its reach, and keeps what goes out of
-//! each as one list of interleaved samples.
+//! [`answer`] takes the nodes of a checked graph in their order, each standing at its reach, where the longest path into
+//! it ends. What comes into a node is, channel by channel, the sum of what its connections bring, each held back until
+//! the node; what goes out is the stream of its kind. Each node's stream is one list of interleaved samples, and all
+//! are kept.
+//!
+//! It promises that the result is the answer of the mathematical graph, as `graph_model` defines it, sample for sample,
+//! for every sound graph of inputs, outputs and gains, and [`is_built`] tells whether a graph has these alone. That no
+//! sum overflows is proved of the bounds that a sound graph keeps.
+//!
+//! It stands on `graph_model`, `topology` and `connections`.
 #![tactic(auto)]
 
 ghost use Rattle.std.specs.Prelude.{◌≡◌, ◌%◌, ◌^◌, ◌<◌, IfOk, length};
@@ -19,10 +27,9 @@ mod streams;
 #[cfg(test)]
 mod tests;
 
-pub use built::is_built;
-
 use crate::evaluation::Evaluation;
 use crate::lookup::output_index;
+pub use built::is_built;
 use connections::Checked;
 use graph_model::List;
 use std::alloc::{AllocError, Global};

@@ -35,7 +35,11 @@ fn gained(alloc: Global, gain: i32, samples: &[i64]) -> Result<List<i64>, AllocE
 
 /// What goes out of a processor when these samples have come in. Both are interleaved, by its output and its input
 /// channels, and have as many frames.
-pub(crate) fn outgoing(alloc: Global, kind: &Kind, incoming: &[i64]) -> Result<List<i64>, AllocError>
+pub(crate) fn outgoing(
+    alloc: Global,
+    kind: &Kind,
+    incoming: &[i64],
+) -> Result<List<i64>, AllocError>
     requires built { IsBuilt kind.now }
     requires processor { IsProcessor kind.now }
     requires range { HasRange kind.now }

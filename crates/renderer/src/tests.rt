@@ -1,8 +1,45 @@
-use super::answer_in;
+ghost use Rattle.std.specs.Prelude.{◌≡◌, ◌^◌, ◌<◌, ◌≤◌, IfOk, length};
+ghost use Rattle.graph_model.specs.Sound.{Fits};
+ghost use Rattle.renderer.specs.Samples.{AreUpTo};
+
+use crate::lookup::input_channels;
+use crate::{answer, is_built};
+use connections::check;
 use graph_model::{Connection, Graph, Kind, List, Node, Uid};
 use std::alloc::{AllocError, Global};
+use std::process::Abort;
 use std::test::Fail;
-use topology::{longest, order};
+
+/// Samples of 16 bits times 65536.
+fn scaled_up(alloc: Global, samples: &[i16]) -> Result<List<i64>, AllocError>
+    ensures count { IfOk result (λ v. length v ≡ length samples.now) }
+    ensures small { IfOk result (AreUpTo (2 ^ 31)) }
+{
+    let mut values = List::new(alloc);
+    for sample in samples {
+        values.push(*sample as i64 * 65536)?;
+    }
+    Ok(values)
+}
+
+/// The answer of a sound graph of built nodes to whole frames.
+fn rendered(
+    rt: &impl Abort,
+    alloc: Global,
+    graph: Graph,
+    samples: &[i16],
+) -> Result<List<i64>, Fail>
+    requires fits { Fits graph }
+    requires few { length samples.now < 2 ^ 40 }
+{
+    let input = scaled_up(alloc, samples)?;
+    let checked = check(alloc, graph)?;
+    let built = is_built(checked.graph());
+    assert!(rt; built);
+    let left = input.len() % input_channels(checked.graph());
+    assert_eq!(rt; left, 0);
+    Ok(answer(alloc, &checked, input.as_slice())?)
+}
 
 fn joined(src: u32, src_channel: u32, dst: u32, dst_channel: u32) -> Connection {
     Connection {
@@ -13,34 +50,100 @@ fn joined(src: u32, src_channel: u32, dst: u32, dst_channel: u32) -> Connection 
     }
 }
 
-/// The nodes with one more.
-fn with(mut nodes: List<Node>, uid: u32, kind: Kind) -> Result<List<Node>, AllocError> {
+/// A processor under 3 that stands first, an output under 2, and last an input under 1.
+fn graph_of(
+    alloc: Global,
+    inputs: u32,
+    outputs: u32,
+    kind: Kind,
+    connections: &[Connection],
+) -> Result<Graph, AllocError>
+    requires { length connections.now ≤ 8192 }
+    ensures { IfOk result Fits }
+{
+    let output = Kind::Output { channels: outputs };
+    let input = Kind::Input { channels: inputs };
+    let mut nodes = List::new(alloc);
+    nodes.push(Node { uid: Uid(3), kind })?;
     nodes.push(Node {
-        uid: Uid(uid),
-        kind,
+        uid: Uid(2),
+        kind: output,
     })?;
-    Ok(nodes)
-}
-
-fn half_and_sum(alloc: Global) -> Result<Graph, AllocError> {
-    let gain = Kind::Gain {
-        channels: 1,
-        gain: 32768,
-    };
-    let first = with(List::new(alloc), 3, gain)?;
-    let input = with(first, 1, Kind::Input { channels: 2 })?;
-    let nodes = with(input, 2, Kind::Output { channels: 2 })?;
-    let connections = [joined(1, 0, 3, 0), joined(3, 0, 2, 0), joined(1, 1, 2, 0)];
-    let connections = List::from_slice(alloc, &connections)?;
+    nodes.push(Node {
+        uid: Uid(1),
+        kind: input,
+    })?;
+    let connections = List::from_slice(alloc, connections)?;
     Ok(Graph { nodes, connections })
 }
 
+/// A gain of one channel, in units of 2^-16.
+fn gain(gain: i32) -> Kind {
+    Kind::Gain { channels: 1, gain }
+}
+
 #[test]
-fn half_a_gain_and_a_sum(rt: HostRuntime) -> Result<(), Fail> {
-    let graph = half_and_sum(rt.alloc())?;
-    let order = order(rt.alloc(), &graph).expect(&rt, "order");
-    let reach = longest(rt.alloc(), &graph, &order)?;
-    let output = answer_in(rt.alloc(), &graph, order.as_slice(), reach.at.as_slice(), &[5, 100, -5, 7])?;
-    assert_eq!(rt; output.as_slice(), [103, 0, 5, 0].as_slice());
+fn a_straight_connection_gives_the_input(rt: HostRuntime) -> Result<(), Fail> {
+    let graph = graph_of(rt.alloc(), 1, 1, gain(0), &[joined(1, 0, 2, 0)])?;
+    let output = rendered(&rt, rt.alloc(), graph, &[-32768, 32767])?;
+    assert_eq!(rt; output.as_slice(), [-2147483648, 2147418112].as_slice());
+    Ok(())
+}
+
+#[test]
+fn half_a_gain_stands_first_with_the_greatest_name(rt: HostRuntime) -> Result<(), Fail> {
+    let way = [joined(3, 0, 2, 0), joined(1, 0, 3, 0)];
+    let graph = graph_of(rt.alloc(), 1, 1, gain(32768), &way)?;
+    let output = rendered(&rt, rt.alloc(), graph, &[100, -3, 5])?;
+    assert_eq!(rt; output.as_slice(), [3276800, -98304, 163840].as_slice());
+    Ok(())
+}
+
+#[test]
+fn two_channels_into_one_are_summed(rt: HostRuntime) -> Result<(), Fail> {
+    let both = [joined(1, 0, 2, 0), joined(1, 1, 2, 0)];
+    let graph = graph_of(rt.alloc(), 2, 1, gain(0), &both)?;
+    let output = rendered(&rt, rt.alloc(), graph, &[1, 2, -3, 4])?;
+    assert_eq!(rt; output.as_slice(), [196608, 65536].as_slice());
+    Ok(())
+}
+
+#[test]
+fn a_gain_of_two_doubles(rt: HostRuntime) -> Result<(), Fail> {
+    let way = [joined(1, 0, 3, 0), joined(3, 0, 2, 0)];
+    let graph = graph_of(rt.alloc(), 1, 1, gain(131072), &way)?;
+    let output = rendered(&rt, rt.alloc(), graph, &[32767, -32768])?;
+    assert_eq!(rt; output.as_slice(), [4294836224, -4294967296].as_slice());
+    Ok(())
+}
+
+#[test]
+fn channels_are_crossed_and_one_is_silent(rt: HostRuntime) -> Result<(), Fail> {
+    let crossed = [joined(1, 0, 2, 1), joined(1, 1, 2, 0)];
+    let graph = graph_of(rt.alloc(), 2, 3, gain(0), &crossed)?;
+    let output = rendered(&rt, rt.alloc(), graph, &[1, 2, -3, 4])?;
+    assert_eq!(rt;
+        output.as_slice(),
+        [131072, 65536, 0, 262144, -196608, 0].as_slice()
+    );
+    Ok(())
+}
+
+#[test]
+fn no_frames_give_none(rt: HostRuntime) -> Result<(), Fail> {
+    let graph = graph_of(rt.alloc(), 2, 3, gain(0), &[joined(1, 0, 2, 1)])?;
+    let output = rendered(&rt, rt.alloc(), graph, &[])?;
+    assert_eq!(rt; output.len(), 0);
+    Ok(())
+}
+
+#[test]
+fn an_insert_is_not_built(rt: HostRuntime) -> Result<(), Fail> {
+    let insert = Kind::Insert {
+        channels: 1,
+        samples: 5,
+    };
+    let graph = graph_of(rt.alloc(), 1, 1, insert, &[])?;
+    assert!(rt; !is_built(&graph));
     Ok(())
 }

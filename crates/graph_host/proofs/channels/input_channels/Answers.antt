@@ -15,9 +15,9 @@ found c =
     let node = c.index-as_slice-index.result in
     let same = c.graph-graph.ensures.same in
     let at : position (λ n. is_input n.kind) c.args.graph.now.nodes ≡ Some c.unwrap-index.result =
-        ap (λ h. position (λ n. is_input n.kind) h.nodes) (sym same) ∙ sym c.input_index.ensures ∙ c.unwrap-index.ensures in
+    ap (λ h. position (λ n. is_input n.kind) h.nodes) (sym same) ∙ sym c.input_index.ensures ∙ c.unwrap-index.ensures in
     let is : node ≡ get_or c.args.graph.now.nodes c.unwrap-index.result node =
-        c.index-as_slice-index.is ∙ ap (λ ns. get_or ns c.unwrap-index.result node) (c.as_slice.ensures ∙ ap (λ h. h.nodes) same) in
+    c.index-as_slice-index.is ∙ ap (λ ns. get_or ns c.unwrap-index.result node) (c.as_slice.ensures ∙ ap (λ h. h.nodes) same) in
     rw is (ins_found c.args.graph.now c.graph-graph.ensures.sound c.unwrap-index.result node at)
 
 pub returns-clause-channels : goal.returns-clause-channels

@@ -12,5 +12,5 @@ unwrap-index-requires c = rw c.output_index.ensures (rw c.graph.ensures.same (ou
 pub returns : goal.returns
 returns c =
     let at : position (λ n. is_output n.kind) c.args.graph.now.nodes ≡ Some c.unwrap-index.result =
-        ap (λ h. position (λ n. is_output n.kind) h.nodes) (sym c.graph.ensures.same) ∙ sym c.output_index.ensures ∙ c.unwrap-index.ensures in
+    ap (λ h. position (λ n. is_output n.kind) h.nodes) (sym c.graph.ensures.same) ∙ sym c.output_index.ensures ∙ c.unwrap-index.ensures in
     c.reach.ensures ∙ ap (reach c.args.graph.now) (output_named c.args.graph.now c.graph.ensures.sound.shaped.ends.1 c.unwrap-index.result at)

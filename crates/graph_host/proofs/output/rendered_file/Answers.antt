@@ -19,7 +19,7 @@ pub returns-clause-file : goal.returns-clause-file
 returns-clause-file c =
     let form = c.args.recording.now.form in
     let made : c.in_ok-samples.samples ≡ interleaved (answer c.args.graph.now (frames_of (in_channels c.args.graph.now) c.args.recording.now.samples.items)) =
-        subst (λ (xs : List ℤ). c.in_ok-samples.samples ≡ interleaved (answer c.args.graph.now (frames_of (in_channels c.args.graph.now) xs))) c.as_slice.ensures.value c.in_ok-samples.ensures in
+    subst (λ (xs : List ℤ). c.in_ok-samples.samples ≡ interleaved (answer c.args.graph.now (frames_of (in_channels c.args.graph.now) xs))) c.as_slice.ensures.value c.in_ok-samples.ensures in
     let few = few_frames form c.requires.form c.requires.short in
     let head : c.head_bytes.new.into ≡ head_of form.channels form.rate form.bits (form.frames * (form.channels * (form.bits / 8))) = search rules in
     file_is c.args.graph.now form c.args.recording.now.samples.items c.in_ok-samples.samples c.head_bytes.new.into

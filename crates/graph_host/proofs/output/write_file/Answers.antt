@@ -40,11 +40,10 @@ after_frames : (g : _) (c : goal.After-append_pad g) → let file = c.args.file.
     × Holds c.args.name.now (file.head ++ bytes_of file.bits file.samples) (g.F.Folder.held c.append_frames.new.folder)
 after_frames g c =
     let file = c.args.file.now in
-    let name = c.args.name.now in
-    (
+    let name = c.args.name.now in (
       keeps name _ _ _ (keeps name _ _ _ c.in_ok-create.ensures.others c.in_ok-append.ensures.others) c.in_ok-append_frames.ensures.others,
       c.in_ok-append_frames.ensures.ok file.head
-      (appended name file.head _ _ c.in_ok-append.ensures.others c.in_ok-append.ensures.gained [] c.in_ok-create.ensures.made),
+          (appended name file.head _ _ c.in_ok-append.ensures.others c.in_ok-append.ensures.gained [] c.in_ok-create.ensures.made),
     )
 
 -- the pad is that of the file
@@ -59,7 +58,7 @@ all g c =
     let name = c.args.name.now in
     let start = file.head ++ bytes_of file.bits file.samples in
     let is : start ++ replicate (c.len.result % 2) 0 ≡ file_of file =
-        ap (λ n. file.head ++ bytes_of file.bits file.samples ++ replicate (n % 2) 0) (pad g c) in
+    ap (λ n. file.head ++ bytes_of file.bits file.samples ++ replicate (n % 2) 0) (pad g c) in
     on_ok c.append_pad.result (λ a. subst (λ bytes. Holds name bytes (g.F.Folder.held c.append_pad.new.folder)) is (a start (after_frames g c).1)) c.append_pad.ensures.ok
 
 pub returns-clause-ok : goal.returns-clause-ok
@@ -73,17 +72,17 @@ returns-clause-part g c =
     let start = file.head ++ bytes_of file.bits file.samples in
     let kept = keeps name _ _ _ before.0 c.append_pad.ensures.others in
     let is : start ++ (replicate (c.len.result % 2) 0 ++ []) ≡ file_of file =
-        ap (λ l. start ++ l) (append-nil (replicate (c.len.result % 2) 0)) ∙ ap (λ n. file.head ++ bytes_of file.bits file.samples ++ replicate (n % 2) 0) (pad g c) in
+    ap (λ l. start ++ l) (append-nil (replicate (c.len.result % 2) 0)) ∙ ap (λ n. file.head ++ bytes_of file.bits file.samples ++ replicate (n % 2) 0) (pad g c) in
     either_part c.append_pad.result (whole name (file_of file) _ _ kept)
     (λ p. subst (λ bytes. IsPart name bytes (g.F.Folder.held c.args.folder.now) (g.F.Folder.held c.append_pad.new.folder)) is
-        (part-of name start (replicate (c.len.result % 2) 0) [] _ _ _ before.0 c.append_pad.ensures.others before.1 p))
+    (part-of name start (replicate (c.len.result % 2) 0) [] _ _ _ before.0 c.append_pad.ensures.others before.1 p))
     (all g c) c.append_pad.ensures.part
 
 pub returns-clause-failed : goal.returns-clause-failed
 returns-clause-failed g c =
     let count = g.F.Folder.write_faults in
     let before : count c.args.folder.now ≤ count c.append_frames.new.folder =
-        omega (arith, c.in_ok-create.ensures.cause.later, c.in_ok-append.ensures.cause.later, c.in_ok-append_frames.ensures.writes) in
+    omega (arith, c.in_ok-create.ensures.cause.later, c.in_ok-append.ensures.cause.later, c.in_ok-append_frames.ensures.writes) in
     on_err c.append_pad.result (λ f. elim f [
       | inl rose ↦ rose_since _ _ _ before rose
       | inr missing ↦ absurd (not_missing c.args.name.now _ _ (after_frames g c).1 missing)

@@ -32,8 +32,8 @@ returns-in-Ok-clause-there g c =
     let name = c.args.name.now in
     let channels = c.input_channels.ensures in
     let found : FindsHead name c.args.graph.now c.in-Ok.head held =
-        head_found name c.args.graph.now held c.in-Ok.head
-        (λ m. no_fault c.read_head.result c.in-Ok.head c.in-Ok.is (c.read_head.ensures.missed m).0)
-        (subst (λ n. HeldBytes name held (λ bytes. ReadsAs n bytes (Ok c.in-Ok.head))) channels.channels c.in-Ok.ensures.ok) in
+    head_found name c.args.graph.now held c.in-Ok.head
+    (λ m. no_fault c.read_head.result c.in-Ok.head c.in-Ok.is (c.read_head.ensures.missed m).0)
+    (subst (λ n. HeldBytes name held (λ bytes. ReadsAs n bytes (Ok c.in-Ok.head))) channels.channels c.in-Ok.ensures.ok) in
     head_there name c.args.graph.now held c.in-Ok.head
     (subst (λ n. 1 ≤ n) channels.channels channels.least) (subst (λ n. n ≤ 32) channels.channels channels.most) found

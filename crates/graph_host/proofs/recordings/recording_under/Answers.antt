@@ -25,13 +25,16 @@ returns-in-Ok-clause-form g c =
     let held = g.F.Folder.held in
     let head = c.in_ok-head.head in
     let read : HeldBytes c.args.request.now.input.now (held c.args.folder.now) (λ file. c.in_ok-samples.samples.items ≡ recorded head file) =
-        subst (λ (o : Option Holding). HeldBytes c.args.request.now.input.now o (λ file. c.in_ok-samples.samples.items ≡ recorded head file)) c.head_under.ensures.held c.in_ok-samples.ensures.samples in
-    (head, c.in_ok-form.ensures.ok, record {
-      recorded = c.in_ok-samples.samples.items;
-      found = found_more c.args.request.now.input.now c.args.graph.now (held c.args.folder.now) head c.in_ok-samples.samples.items c.in_ok-head.ensures.ok read;
-      whole = whole g c;
-      silent = samples_are g c;
-    })
+    subst (λ (o : Option Holding). HeldBytes c.args.request.now.input.now o (λ file. c.in_ok-samples.samples.items ≡ recorded head file)) c.head_under.ensures.held c.in_ok-samples.ensures.samples in (
+      head,
+      c.in_ok-form.ensures.ok,
+      record {
+        recorded = c.in_ok-samples.samples.items;
+        found = found_more c.args.request.now.input.now c.args.graph.now (held c.args.folder.now) head c.in_ok-samples.samples.items c.in_ok-head.ensures.ok read;
+        whole = whole g c;
+        silent = samples_are g c;
+      },
+    )
 
 sums : (a b n : ℕ) → a * n + b * n ≡ (a + b) * n
 sums a b n = omega arith

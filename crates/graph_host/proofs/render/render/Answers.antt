@@ -17,7 +17,7 @@ returns-in-Ok-write_file-clause-done g c =
     let form = c.in_ok-recording.recording.form in
     let samples = c.in_ok-recording.recording.samples.items in
     let read : (h : Head) × IsFormOf q graph h form × IsInput q.input graph h form.silent samples (held c.args.folder.now) =
-        subst (λ (o : Option Holding). (h : Head) × IsFormOf q graph h form × IsInput q.input graph h form.silent samples o) c.graph_under.ensures.held c.in_ok-recording.ensures.form in
+    subst (λ (o : Option Holding). (h : Head) × IsFormOf q graph h form × IsInput q.input graph h form.silent samples o) c.graph_under.ensures.held c.in_ok-recording.ensures.form in
     is_written q graph form samples (file_of c.in-Ok.file) (held c.args.folder.now) c.in_ok-graph.ensures.sound read c.in_ok-recording.ensures.short c.in-Ok.ensures.file c.in_ok-graph.ensures.ok
     (held c.write_file.new.folder) c.in-Ok-write_file.ensures.ok
 
@@ -29,7 +29,7 @@ returns-in-Ok-write_file-clause-begun g c =
     let form = c.in_ok-recording.recording.form in
     let samples = c.in_ok-recording.recording.samples.items in
     let read : (h : Head) × IsFormOf q graph h form × IsInput q.input graph h form.silent samples (held c.args.folder.now) =
-        subst (λ (o : Option Holding). (h : Head) × IsFormOf q graph h form × IsInput q.input graph h form.silent samples o) c.graph_under.ensures.held c.in_ok-recording.ensures.form in
+    subst (λ (o : Option Holding). (h : Head) × IsFormOf q graph h form × IsInput q.input graph h form.silent samples o) c.graph_under.ensures.held c.in_ok-recording.ensures.form in
     is_begun q graph form samples (file_of c.in-Ok.file) (held c.args.folder.now) c.in_ok-graph.ensures.sound read c.in_ok-recording.ensures.short c.in-Ok.ensures.file c.in_ok-graph.ensures.ok
     (held c.write_file.new.folder)
     (subst (λ (o : Option Holding). IsPart q.output (file_of c.in-Ok.file) o (held c.write_file.new.folder)) (c.recording_under.ensures.held ∙ c.graph_under.ensures.held) c.in-Ok-write_file.ensures.part)
@@ -42,7 +42,7 @@ returns-clause-begun g c =
     let form = c.in_ok-recording.recording.form in
     let samples = c.in_ok-recording.recording.samples.items in
     let read : (h : Head) × IsFormOf q graph h form × IsInput q.input graph h form.silent samples (held c.args.folder.now) =
-        subst (λ (o : Option Holding). (h : Head) × IsFormOf q graph h form × IsInput q.input graph h form.silent samples o) c.graph_under.ensures.held c.in_ok-recording.ensures.form in
+    subst (λ (o : Option Holding). (h : Head) × IsFormOf q graph h form × IsInput q.input graph h form.silent samples o) c.graph_under.ensures.held c.in_ok-recording.ensures.form in
     is_begun q graph form samples (file_of c.in-Ok.file) (held c.args.folder.now) c.in_ok-graph.ensures.sound read c.in_ok-recording.ensures.short c.in-Ok.ensures.file c.in_ok-graph.ensures.ok
     (held c.write_file.new.folder)
     (subst (λ (o : Option Holding). IsPart q.output (file_of c.in-Ok.file) o (held c.write_file.new.folder)) (c.recording_under.ensures.held ∙ c.graph_under.ensures.held) c.write_file.ensures.part)

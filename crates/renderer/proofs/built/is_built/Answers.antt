@@ -1,5 +1,4 @@
 use Rattle.std.proofs.Common.{◌≡◌, ◌<◌, ◌≤◌, length, subst, sym, refl, ap, ◌∙◌, take_all, get_or}
-use Rattle.std.proofs.lemmas.List.{get_or_read}
 use Rattle.std.proofs.lemmas.List.Elements.{All-more, All-same}
 use Rattle.renderer.specs.Built.{IsBuilt}
 use Rattle.graph_model.specs.declared.graph.Node.{Node}

@@ -1,4 +1,4 @@
-use Rattle.std.proofs.Common.{◌≡◌, ◌+◌, ◌≤◌, get_or, sym, ◌∙◌, ap, arith, Some, ◌==◌}
+use Rattle.std.proofs.Common.{◌≡◌, get_or, sym, ◌∙◌, ap, arith, Some, ◌==◌}
 use Rattle.std.specs.Prelude.{is_some}
 use Rattle.std.specs.List.{position}
 use Rattle.graph_model.specs.declared.graph.Graph.{Graph}

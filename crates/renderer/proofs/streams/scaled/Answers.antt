@@ -1,4 +1,4 @@
-use Rattle.std.proofs.Common.{◌≡◌, ◌^◌, ◌≤◌, ℤ, ◌*ℤ◌, to_z, of_z, arith, ◌∙◌, ap, unsigned_abs, w64}
+use Rattle.std.proofs.Common.{◌≡◌, ◌≤◌, ℤ, ◌*ℤ◌, to_z, of_z, arith, ◌∙◌, ap, unsigned_abs, w64}
 use Rattle.std.proofs.lemmas.Int.{ints, unsigned_abs-mul}
 use Rattle.std.proofs.Math.Nat.{mul-le-mul}
 use mir.Syntax.{w32, w128}

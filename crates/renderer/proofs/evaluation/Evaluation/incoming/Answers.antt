@@ -1,4 +1,4 @@
-use Rattle.std.proofs.Common.{◌≡◌, ◌<◌, ◌≤◌, ◌*◌, ◌+◌, ◌^◌, get_or, refl, Vec, Global, ℤ, length, replicate, pos, sym, ◌∙◌, ap, subst, arith}
+use Rattle.std.proofs.Common.{◌≡◌, ◌≤◌, ◌*◌, ◌+◌, ◌^◌, get_or, Vec, Global, ℤ, length, replicate, pos, sym, ◌∙◌, ap, subst, arith}
 use Rattle.std.proofs.lemmas.List.{with_items_is}
 use Rattle.graph_model.specs.Kinds.{ins_of}
 use Rattle.graph_model.specs.Graphs.{ins_at}
@@ -66,7 +66,7 @@ add-requires-clause-room c =
 pub loop-route-preserved : goal.loop-route-preserved
 loop-route-preserved c =
     elim c.if-route-node.branch [
-      | then-route-node w ↦ 
+      | then-route-node w ↦
           (let e = c.args.self.now in
           let r = get_or c.deref-route-items.result.now c.loop-route.route-index any_route in
           let back : c.if-route-node.sums.items ≡ w.add.new.sums = ap (λ (v : Vec ℤ Global). v.items) w.sums-is ∙ with_items_is c.loop-route.sums w.add.new.sums (w.add.auto.sums ∙ w.deref_mut.ensures.len) in

@@ -1,4 +1,4 @@
-use Rattle.std.proofs.Common.{◌≤◌, length, get_or, sym, subst, ap}
+use Rattle.std.proofs.Common.{get_or, sym, subst}
 use Rattle.topology.specs.Answers.{IsOrderOfNodes}
 use Rattle.renderer.specs.Evaluations.{HasSources}
 use Rattle.renderer.proofs.OrderSteps.{sources_found, found_all}
