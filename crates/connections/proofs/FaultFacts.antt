@@ -1,14 +1,12 @@
 -- A fault fails its own check, and the checks before it hold.
-use Rattle.std.proofs.Common.{◌≡◌, ℕ, zero, suc, ◌+◌, ◌*◌, ◌^◌, ◌<◌, ◌≤◌, List, length, map, take, get_or, refl, sym, ◌∙◌, ap, subst, arith, Some, None, inl, inr, sum_by, Option}
-use Rattle.std.specs.Prelude.{find, slice_get, is_some, ◌≢◌}
-use Rattle.std.specs.List.{All, position_or_len}
+use Rattle.std.proofs.Common.{◌≡◌, ℕ, zero, suc, ◌+◌, ◌*◌, ◌^◌, ◌<◌, ◌≤◌, List, length, map, take, get_or, sym, ◌∙◌, ap, subst, arith, Some, None, inl, inr, Option}
+use Rattle.std.specs.Prelude.{slice_get, is_some}
+use Rattle.std.specs.List.{position_or_len}
 use Rattle.std.proofs.lemmas.List.{get_or-map, get_or-take, length-take, length-map}
 use Rattle.std.proofs.lemmas.List.Folds.{find_at}
 use Rattle.std.proofs.lemmas.Option.{slice_get_within, get_or_from_slice_get}
-use Rattle.graph_model.specs.Kinds.{cells_of}
-use Rattle.graph_model.specs.Graphs.{IsNode, ins_at, outs_at}
 use Rattle.graph_model.specs.Members.{bad_member}
-use Rattle.graph_model.specs.Checks.{IsConnection, AreConnections, IsClosedWalk}
+use Rattle.graph_model.specs.Checks.{IsConnection, AreConnections}
 use Rattle.graph_model.specs.Paths.{IsAcyclic, live_connections, latency_of_graph}
 use Rattle.graph_model.specs.Sound.{IsShaped, IsSound}
 use Rattle.graph_model.specs.declared.member.Member.{Member}
@@ -23,7 +21,7 @@ use Rattle.std.proofs.lemmas.Bool.{cases_lt, cases_eq}
 use Rattle.headroom.proofs.LoudFacts.{too_loud_refutes}
 use Rattle.headroom.specs.Answers.{AllBounded}
 use Rattle.topology.proofs.NameFacts.{any_node}
-use Rattle.connections.specs.Faults.{UidsDiffer, AreInRange, HasEnds, HasGoodNodes, HasUidAt, IsUidTwice, IsOutOfRange, IsFirstBad, LacksNode, HasItsNodes, JoinsItself, IsPastChannels, IsOffChannel, StandsAlready, HasFewDelays, HasFewCells, HasLongDelays, HasManyCells, IsFirstFault}
+use Rattle.connections.specs.Faults.{UidsDiffer, AreInRange, HasEnds, HasGoodNodes, HasUidAt, IsUidTwice, IsOutOfRange, IsFirstBad, LacksNode, JoinsItself, IsPastChannels, IsOffChannel, StandsAlready, HasFewDelays, HasFewCells, IsFirstFault}
 use Rattle.connections.specs.declared.fault.GraphFault.{GraphFault}
 use Rattle.connections.specs.declared.fault.GraphFault.TheVariants.{UidTwice, KindField, Ends, NoSuchNode, SelfConnection, ChannelRange, Twice, Cycle, DelayBound, StateBound, Headroom}
 

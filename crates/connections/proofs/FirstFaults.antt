@@ -1,5 +1,5 @@
 -- A graph has one first fault, but for the walk of a cycle.
-use Rattle.std.proofs.Common.{◌≡◌, ℕ, zero, suc, ◌+◌, ◌<◌, ◌≤◌, List, [], length, map, take, get_or, refl, sym, ◌∙◌, ap, subst, arith, Option, Some, inl, inr}
+use Rattle.std.proofs.Common.{◌≡◌, ℕ, zero, suc, ◌<◌, ◌≤◌, [], map, take, refl, sym, ◌∙◌, ap, subst, arith, Option, Some, inl, inr}
 use Rattle.std.specs.Prelude.{slice_get, ◌≢◌}
 use Rattle.std.proofs.lemmas.Bool.{cases_lt, cases_eq}
 use Rattle.std.proofs.lemmas.List.{get_or-take, length-take}
@@ -20,7 +20,7 @@ use Rattle.connections.specs.Faults.{UidsDiffer, HasUidAt, IsUidTwice, IsOutOfRa
 use Rattle.connections.specs.Laws.{without_walk, FirstFaultIsUnique}
 use Rattle.connections.specs.declared.fault.GraphFault.{GraphFault}
 use Rattle.connections.specs.declared.fault.GraphFault.TheVariants.{UidTwice, KindField, Ends, NoSuchNode, SelfConnection, ChannelRange, Twice, Cycle, DelayBound, StateBound, Headroom}
-use Rattle.connections.proofs.FaultFacts.{stage, same_stage, uid_at_place, connection_at_place, passes_at, lacks_fails, channel_fails, already_fails}
+use Rattle.connections.proofs.FaultFacts.{stage, same_stage, uid_at_place, passes_at, lacks_fails, channel_fails, already_fails}
 
 same_some : {X : Type 0} (o : Option X) (a b : X) → o ≡ Some a → o ≡ Some b → a ≡ b
 same_some o a b x y = cc

@@ -3,3 +3,4 @@ pub mod JointFacts
 pub mod LimitFacts
 pub mod FaultFacts
 pub mod FirstFaults
+pub mod Examples

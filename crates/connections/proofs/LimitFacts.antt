@@ -1,5 +1,5 @@
 -- The latency and the live connections of a graph, by the indexes of nodes.
-use Rattle.std.proofs.Common.{◌≡◌, ℕ, ◌<◌, ◌≤◌, List, length, map, get_or, refl, sym, ◌∙◌, ap, arith, ◌==◌, Some}
+use Rattle.std.proofs.Common.{◌≡◌, ℕ, ◌<◌, ◌≤◌, List, length, map, get_or, refl, sym, ◌∙◌, ap, arith, Some}
 use Rattle.std.specs.List.{position}
 use Rattle.std.proofs.lemmas.List.Quantifiers.{position-Some}
 use Rattle.graph_model.specs.Graphs.{IsNode, is_output}

@@ -1,7 +1,7 @@
 -- Nodes by their indexes: what is kept of them, and what their checks find.
-use Rattle.std.proofs.Common.{◌≡◌, ℕ, ◌+◌, ◌<◌, ◌≤◌, List, [], ◌∷◌, ◌++◌, length, map, take, get_or, refl, sym, ◌∙◌, ap, subst, arith, Bool, true, false, cond, ◌==◌, Option, Some, None, inl, inr}
-use Rattle.std.specs.Prelude.{is_some, find, slice_get}
-use Rattle.std.specs.List.{All, position, position_or_len}
+use Rattle.std.proofs.Common.{◌≡◌, ℕ, ◌+◌, ◌<◌, ◌≤◌, List, length, map, take, get_or, refl, sym, ◌∙◌, ap, subst, arith, Bool, true, false, cond, ◌==◌, Option, Some, None, inl, inr}
+use Rattle.std.specs.Prelude.{is_some, slice_get}
+use Rattle.std.specs.List.{position, position_or_len}
 use Rattle.std.specs.Option.{option_map}
 use Rattle.std.proofs.lemmas.List.{get_or-map, get_or-take, length-take, take_more, take_all}
 use Rattle.std.proofs.lemmas.List.Elements.{All-push}

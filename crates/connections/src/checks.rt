@@ -14,7 +14,7 @@ use crate::joints::check_connections;
 use crate::limits::{check_cells, check_delays};
 use crate::nodes::check_nodes;
 use graph_model::{Bound, Graph, List, Refused};
-use headroom::{TooLoud, bounds};
+use headroom::bounds;
 use std::alloc::Global;
 use topology::{Cycle, Reach, live, longest, order};
 
@@ -90,20 +90,11 @@ fn bounds_of(
 {
     match bounds(alloc, graph, order) {
         Ok(bounds) => Ok(bounds),
-        Err(
-            Refused::Fault(
-                TooLoud {
-                    uid,
-                    side,
-                    channel,
-                    bound,
-                },
-            ),
-        ) => Err(Refused::Fault(GraphFault::Headroom {
-            uid,
-            side,
-            channel,
-            bound,
+        Err(Refused::Fault(loud)) => Err(Refused::Fault(GraphFault::Headroom {
+            uid: loud.uid,
+            side: loud.side,
+            channel: loud.channel,
+            bound: loud.bound,
         })),
         Err(Refused::Memory) => Err(Refused::Memory),
     }

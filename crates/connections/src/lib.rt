@@ -24,3 +24,6 @@ mod nodes;
 pub use checked::Checked;
 pub use checks::check;
 pub use fault::GraphFault;
+
+#[cfg(test)]
+mod tests;

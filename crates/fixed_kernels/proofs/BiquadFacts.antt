@@ -1,6 +1,5 @@
 -- A frame through a biquad.
-use Rattle.std.proofs.Common.{◌≡◌, ℕ, zero, suc, ◌+◌, ◌<◌, ◌≤◌, List, [], ◌∷◌, length, drop, map, replicate, get_or, ℤ, pos, refl, sym, ap, ◌∙◌, subst, arith}
-use Rattle.std.specs.List.{range_with_len}
+use Rattle.std.proofs.Common.{◌≡◌, ℕ, ◌<◌, List, [], ◌∷◌, length, drop, replicate, get_or, ℤ, pos, refl, sym, ap, ◌∙◌, subst, arith}
 use Rattle.std.proofs.lemmas.List.{get_or-map, length-map, length-replicate}
 use Rattle.std.proofs.lemmas.List.FromFn.{get_or-map-range_with_len, fill_by_all}
 use Rattle.graph_model.specs.Filters.{Coefficients, biquad_of, recursed}
@@ -10,7 +9,7 @@ use Rattle.graph_model.specs.QuietLaws.{biquad-cons}
 use Rattle.graph_model.specs.Ranges.{HasRange}
 use Rattle.graph_model.specs.declared.kind.Kind.{Kind}
 use Rattle.graph_model.specs.declared.graph.Bound.{Bound}
-use Rattle.fixed_kernels.specs.Kernels.{KernelState, Stands, new_kernel, IsBoundOf, IsFrameWithin, IsKernel}
+use Rattle.fixed_kernels.specs.Kernels.{Stands, new_kernel, IsBoundOf, IsFrameWithin, IsKernel}
 use Rattle.fixed_kernels.specs.Sections.{coefficients, section_kind, silent_tail, tail_at, last_ins, last_outs, next_out, next_tail, AreStepped}
 use Rattle.fixed_kernels.specs.States.{biquad_state}
 use Rattle.fixed_kernels.specs.declared.section.Section.{Section}
@@ -61,25 +60,25 @@ module _ (s : Section) (bound : Bound) (tails : List Tail) (h : History) where
   tails_stand is =
       let n : ℕ = length tails in
       let ins : last_ins tails ≡ windows (length tails) 2 h =
-          fill_by_all (λ c. window 2 (channel c h)) (last_ins tails) (length tails) [] (length-map tails (λ (t : Tail). pair t.x1 t.x2))
-          (λ c lt. get_or-map (λ (t : Tail). pair t.x1 t.x2) tails c silent_tail [] lt
-          ∙ (λ i. pair ((is c lt).x1 i) ((is c lt).x2 i)) ∙ sym (window-two (channel c h))) in
+      fill_by_all (λ c. window 2 (channel c h)) (last_ins tails) (length tails) [] (length-map tails (λ (t : Tail). pair t.x1 t.x2))
+      (λ c lt. get_or-map (λ (t : Tail). pair t.x1 t.x2) tails c silent_tail [] lt
+      ∙ (λ i. pair ((is c lt).x1 i) ((is c lt).x2 i)) ∙ sym (window-two (channel c h))) in
       let outs : last_outs tails ≡ windows (length tails) 2 (stream (on_each (length tails) (biquad_of (coefficients s))) h) =
-          fill_by_all (λ c. window 2 (channel c (stream (on_each (length tails) (biquad_of (coefficients s))) h))) (last_outs tails) (length tails) []
-          (length-map tails (λ (t : Tail). pair t.y1 t.y2))
-          (λ c lt. get_or-map (λ (t : Tail). pair t.y1 t.y2) tails c silent_tail [] lt
-          ∙ (λ i. pair ((is c lt).y1 i) ((is c lt).y2 i)) ∙ sym (last_two (length tails) (biquad_of (coefficients s)) refl c lt h)) in
+      fill_by_all (λ c. window 2 (channel c (stream (on_each (length tails) (biquad_of (coefficients s))) h))) (last_outs tails) (length tails) []
+      (length-map tails (λ (t : Tail). pair t.y1 t.y2))
+      (λ c lt. get_or-map (λ (t : Tail). pair t.y1 t.y2) tails c silent_tail [] lt
+      ∙ (λ i. pair ((is c lt).y1 i) ((is c lt).y2 i)) ∙ sym (last_two (length tails) (biquad_of (coefficients s)) refl c lt h)) in
       λ i. record { ins = ins i; outs = outs i; scales = []; lowests = [] }
 
   pub tails_are : Stands (biquad_state s bound tails) h → (c : ℕ) → c < length tails → IsTailOf (coefficients s) (tail_at tails c) (channel c h)
   tails_are stands c lt =
       let ins : pair (tail_at tails c).x1 (tail_at tails c).x2 ≡ pair (ago (channel c h) 0) (ago (channel c h) 1) =
-          sym (get_or-map (λ (t : Tail). pair t.x1 t.x2) tails c silent_tail [] lt) ∙ ap (λ (k : Kept). get_or k.ins c []) stands
-          ∙ get_or-map-range_with_len (λ d. window 2 (channel d h)) 0 (length tails) c c [] lt (omega arith) ∙ window-two (channel c h) in
+      sym (get_or-map (λ (t : Tail). pair t.x1 t.x2) tails c silent_tail [] lt) ∙ ap (λ (k : Kept). get_or k.ins c []) stands
+      ∙ get_or-map-range_with_len (λ d. window 2 (channel d h)) 0 (length tails) c c [] lt (omega arith) ∙ window-two (channel c h) in
       let outs : pair (tail_at tails c).y1 (tail_at tails c).y2 ≡ pair (biquad_of (coefficients s) (channel c h)) (biquad_of (coefficients s) (drop 1 (channel c h))) =
-          sym (get_or-map (λ (t : Tail). pair t.y1 t.y2) tails c silent_tail [] lt) ∙ ap (λ (k : Kept). get_or k.outs c []) stands
-          ∙ get_or-map-range_with_len (λ d. window 2 (channel d (stream (on_each (length tails) (biquad_of (coefficients s))) h))) 0 (length tails) c c [] lt (omega arith)
-          ∙ last_two (length tails) (biquad_of (coefficients s)) refl c lt h in
+      sym (get_or-map (λ (t : Tail). pair t.y1 t.y2) tails c silent_tail [] lt) ∙ ap (λ (k : Kept). get_or k.outs c []) stands
+      ∙ get_or-map-range_with_len (λ d. window 2 (channel d (stream (on_each (length tails) (biquad_of (coefficients s))) h))) 0 (length tails) c c [] lt (omega arith)
+      ∙ last_two (length tails) (biquad_of (coefficients s)) refl c lt h in
       record {
         x1 = ap (λ (xs : List ℤ). get_or xs 0 (pos 0)) ins;
         x2 = ap (λ (xs : List ℤ). get_or xs 1 (pos 0)) ins;
@@ -93,9 +92,9 @@ module _ (s : Section) (n : ℕ) (kind : Kind) (bound : Bound) (tails : List Tai
   pub biquad_made : biquad_state s bound tails ≡ new_kernel kind bound
   biquad_made =
       let ins : last_ins tails ≡ windows n 2 [] =
-          ap last_ins zeros ∙ map-copies (λ (t : Tail). pair t.x1 t.x2) (λ c. window 2 (channel c [])) silent_tail 0 n (λ c. refl) in
+      ap last_ins zeros ∙ map-copies (λ (t : Tail). pair t.x1 t.x2) (λ c. window 2 (channel c [])) silent_tail 0 n (λ c. refl) in
       let outs : last_outs tails ≡ windows n 2 [] =
-          ap last_outs zeros ∙ map-copies (λ (t : Tail). pair t.y1 t.y2) (λ c. window 2 (channel c [])) silent_tail 0 n (λ c. refl) in
+      ap last_outs zeros ∙ map-copies (λ (t : Tail). pair t.y1 t.y2) (λ c. window 2 (channel c [])) silent_tail 0 n (λ c. refl) in
       let count : length tails ≡ n = ap length zeros ∙ length-replicate n silent_tail in
       (λ i. record { kind = section_kind (count i) s; bound = bound; kept = record { ins = ins i; outs = outs i; scales = []; lowests = [] } })
       ∙ ap (λ (k : Kind). new_kernel k bound) same

@@ -1,21 +1,20 @@
 -- A frame through a finite impulse response.
-use Rattle.std.proofs.Common.{◌≡◌, ℕ, ◌^◌, ◌<◌, ◌≤◌, List, [], ◌∷◌, length, replicate, get_or, ℤ, pos, refl, sym, ap, ◌∙◌, subst, arith}
+use Rattle.std.proofs.Common.{◌≡◌, ℕ, ◌^◌, ◌<◌, ◌≤◌, List, [], ◌∷◌, length, replicate, get_or, ℤ, pos, refl, sym, ap, ◌∙◌, subst}
 use Rattle.std.specs.Prelude.{unsigned_abs}
 use Rattle.circular_buffer.specs.Buffer.{Buffer, buffer}
-use Rattle.graph_model.specs.Filters.{filtered, products}
-use Rattle.graph_model.specs.Histories.{Frame, History, channel, window, on_each}
+use Rattle.graph_model.specs.Filters.{filtered}
+use Rattle.graph_model.specs.Histories.{Frame, History, channel}
 use Rattle.graph_model.specs.Kept.{windows, Kept}
 use Rattle.graph_model.specs.Ranges.{HasRange}
 use Rattle.graph_model.specs.Rounding.{rounded}
-use Rattle.graph_model.specs.declared.kind.Kind.{Kind}
 use Rattle.graph_model.specs.declared.kind.Kind.TheVariants.{Fir}
 use Rattle.graph_model.specs.declared.graph.Bound.{Bound}
-use Rattle.fixed_kernels.specs.Kernels.{KernelState, Stands, new_kernel, IsBoundOf, IsFrameWithin, IsKernel}
+use Rattle.fixed_kernels.specs.Kernels.{Stands, new_kernel, IsBoundOf, IsFrameWithin, IsKernel}
 use Rattle.fixed_kernels.specs.Lines.{line_at, samples_in, AreFull, pushed, ArePushed}
 use Rattle.fixed_kernels.specs.States.{kept_in, fir_state}
 use Rattle.fixed_kernels.proofs.WindowLaws.{products-window}
 use Rattle.fixed_kernels.proofs.ChannelFacts.{on_each_at, on_each_is}
-use Rattle.fixed_kernels.proofs.LineFacts.{full_after, line_count, pushed_is, stand_after, silent_stand, silent_full}
+use Rattle.fixed_kernels.proofs.LineFacts.{line_count, pushed_is, stand_after, silent_stand, silent_full}
 use Rattle.fixed_kernels.proofs.KernelFacts.{Frames, frames, next_fits, next_kernel, new_is_kernel}
 
 -- a new one
@@ -54,7 +53,7 @@ module _ (taps : List ℤ) (q l : ℕ) (bound : Bound) (lines : List (Buffer ℤ
     pub fir_stands : (h : History) → Stands (fir_state taps q l bound lines) h → Stands (fir_state taps q l bound new) (f ∷ h)
     fir_stands h stands =
         let after : samples_in new ≡ windows (length lines) (length taps) (f ∷ h)
-            = stand_after (length taps) (length lines) lines h (stood h stands) f full new moved in
+        = stand_after (length taps) (length lines) lines h (stood h stands) f full new moved in
         ap (λ (xs : List (List ℤ)). kept_in (length new) xs) (after ∙ ap (λ n. windows n (length taps) (f ∷ h)) (sym moved.count))
 
     pub fir_kernel : IsKernel (fir_state taps q l bound new)

@@ -3,7 +3,6 @@ use Rattle.std.proofs.Common.{◌≡◌, ℕ, ◌^◌, ◌<◌, ◌≤◌, ◌�
 use Rattle.std.specs.Prelude.{unsigned_abs, ◌*ℤ◌}
 use Rattle.graph_model.specs.Filters.{gained}
 use Rattle.graph_model.specs.Histories.{Frame}
-use Rattle.graph_model.specs.Kinds.{rule_of}
 use Rattle.graph_model.specs.Rounding.{rounded}
 use Rattle.graph_model.specs.declared.kind.Kind.TheVariants.{Gain}
 use Rattle.graph_model.specs.declared.graph.Bound.{Bound}

@@ -1,8 +1,8 @@
 -- A frame through a delay or an insert.
-use Rattle.std.proofs.Common.{◌≡◌, ℕ, ◌^◌, ◌<◌, ◌≤◌, List, [], ◌∷◌, length, replicate, get_or, ℤ, pos, false, refl, sym, ap, ◌∙◌, subst, arith}
+use Rattle.std.proofs.Common.{◌≡◌, ℕ, ◌<◌, List, [], ◌∷◌, length, replicate, get_or, ℤ, pos, false, refl, sym, ap, ◌∙◌, subst, arith}
 use Rattle.circular_buffer.specs.Buffer.{Buffer, buffer}
 use Rattle.graph_model.specs.Filters.{delayed}
-use Rattle.graph_model.specs.Histories.{Frame, History, ago, channel, window, on_each}
+use Rattle.graph_model.specs.Histories.{Frame, History, ago, channel, on_each}
 use Rattle.graph_model.specs.Kinds.{ins_of, outs_of, rule_of}
 use Rattle.graph_model.specs.Kept.{kept, ins_kept, windows, Kept}
 use Rattle.graph_model.specs.Graphs.{is_input}
@@ -10,13 +10,13 @@ use Rattle.graph_model.specs.Ranges.{HasRange}
 use Rattle.graph_model.specs.declared.kind.Kind.{Kind}
 use Rattle.graph_model.specs.declared.kind.Kind.TheVariants.{Input, Output, Gain, Mixer, Fir, Biquad, Limiter, Delay, Insert}
 use Rattle.graph_model.specs.declared.graph.Bound.{Bound}
-use Rattle.fixed_kernels.specs.Kernels.{KernelState, Stands, new_kernel, IsBoundOf, IsFrameWithin, IsKernel}
+use Rattle.fixed_kernels.specs.Kernels.{Stands, new_kernel, IsBoundOf, IsFrameWithin, IsKernel}
 use Rattle.fixed_kernels.specs.Lines.{line_at, samples_in, AreFull, ArePushed}
 use Rattle.fixed_kernels.specs.States.{kept_in, hold_state}
 use Rattle.fixed_kernels.specs.Types.{IsHold}
 use Rattle.fixed_kernels.proofs.WindowLaws.{ago-cons_window}
 use Rattle.fixed_kernels.proofs.ChannelFacts.{on_each_is}
-use Rattle.fixed_kernels.proofs.LineFacts.{full_after, line_count, line_is, stand_after, silent_stand, silent_full}
+use Rattle.fixed_kernels.proofs.LineFacts.{line_count, line_is, stand_after, silent_stand, silent_full}
 use Rattle.fixed_kernels.proofs.KernelFacts.{Frames, frames, next_kernel, new_is_kernel}
 
 -- what holds of a delay holds of an insert
@@ -54,7 +54,7 @@ module _ (kind : Kind) (bound : Bound) (lines : List (Buffer ℤ)) (is : IsHold 
   pub hold_made : hold_state kind bound lines ≡ new_kernel kind bound
   hold_made =
       let stood : samples_in lines ≡ windows (ins_of kind) (ins_kept kind) [] =
-          ap samples_in zeros ∙ silent_stand n d ∙ (λ i. windows (many i) (long i) []) in
+      ap samples_in zeros ∙ silent_stand n d ∙ (λ i. windows (many i) (long i) []) in
       ap (λ (k : Kept). record { kind = kind; bound = bound; kept = k })
       (ap (λ (xs : List (List ℤ)). kept_in (outs_of kind) xs) stood ∙ sym (hold_kept kind is []))
 

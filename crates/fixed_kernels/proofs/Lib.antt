@@ -8,3 +8,5 @@ pub mod MixerFacts
 pub mod HoldFacts
 pub mod FirFacts
 pub mod BiquadFacts
+pub mod TestTaps
+pub mod Examples

@@ -12,7 +12,10 @@ use graph_model::{Bound, Kind};
 use std::alloc::{AllocError, Global};
 use std::marker::Model;
 
-/// A second-order section on each channel, whose clamped output is fed back.
+/// A second-order section in direct form 1 on each channel (Oppenheim and Schafer, Discrete-Time Signal Processing), whose
+/// clamped output is fed back:
+/// `y(n) = clamp(rs(b0*x(n) + b1*x(n-1) + b2*x(n-2) - a1*y(n-1) - a2*y(n-2), shift))`, to `2^bits - 1` in size, where
+/// `rs(a, q)` is `a / 2^q` rounded to the nearest, a half upward.
 #[derive(Drop)]
 pub struct Biquad {
     section: Section,
@@ -32,7 +35,8 @@ impl Model for Biquad {
 }
 
 impl Biquad {
-    /// A section that nothing has come into. It fails only for want of memory.
+    /// A section that nothing has come into, of a kind in range and the bounds of such a node. It fails only for want of
+    /// memory.
     pub fn make(alloc: Global, kind: &Kind, bound: &Bound) -> Result<Self, AllocError>
         requires kind { IsBiquad kind.now }
         requires range { HasRange kind.now }
@@ -49,7 +53,8 @@ impl Biquad {
         })
     }
 
-    /// Takes a frame, one sample for each channel, and gives the frame that goes out then.
+    /// Takes the frame `ins`, one sample for each input channel, and writes to `outs` the frame that goes out then, one
+    /// sample for each output channel. Samples are whole numbers, at most as large in size as their channels' bounds.
     pub fn frame(&mut self, ins: &[i64], outs: &mut [i64])
         requires ins { length ins.now ≡ ins_of self.old.kind }
         requires outs { length outs.old ≡ outs_of self.old.kind }
@@ -115,7 +120,8 @@ fn step_each(section: &Section, tails: &mut [Tail], ins: &[i64], outs: &mut [i64
     requires ins { length ins.now ≡ length tails.old }
     requires outs { length outs.old ≡ length tails.old }
     ensures tails { AreStepped section.now tails.old ins.now tails.new }
-    ensures values { (c : ℕ) → c < length tails.old → slice_index_or outs.new c (pos 0) ≡ next_out section.now (tail_at tails.old c) (slice_index_or ins.now c (pos 0)) }
+    ensures values { (c : ℕ) → c < length tails.old →
+        slice_index_or outs.new c (pos 0) ≡ next_out section.now (tail_at tails.old c) (slice_index_or ins.now c (pos 0)) }
 {
     for c in 0..tails.len() {
         outs[c] = section.step(&mut tails[c], ins[c]);

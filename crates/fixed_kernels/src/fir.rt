@@ -14,7 +14,9 @@ use graph_model::{Bound, Kind, List, rs};
 use std::alloc::{AllocError, Global};
 use std::marker::Model;
 
-/// A finite impulse response on each channel, over a delay line as long as its taps.
+/// A finite impulse response on each channel, over a delay line as long as its taps:
+/// `y(n) = rs(sum over k of h(k) * x(n - k), shift)`, where `rs(a, q)` is `a / 2^q` rounded to the nearest, a half upward
+/// (Oppenheim and Schafer, Discrete-Time Signal Processing).
 #[derive(Drop)]
 pub struct Fir {
     taps: List<i32>,
@@ -38,7 +40,8 @@ impl Model for Fir {
 }
 
 impl Fir {
-    /// A filter that nothing has come into. It fails only for want of memory.
+    /// A filter that nothing has come into, of a kind in range and the bounds of such a node. It fails only for want of
+    /// memory.
     pub fn make(alloc: Global, kind: &Kind, bound: &Bound) -> Result<Self, AllocError>
         requires kind { IsFir kind.now }
         requires range { HasRange kind.now }
@@ -66,7 +69,8 @@ impl Fir {
         })
     }
 
-    /// Takes a frame, one sample for each channel, and gives the frame that goes out then.
+    /// Takes the frame `ins`, one sample for each input channel, and writes to `outs` the frame that goes out then, one
+    /// sample for each output channel. Samples are whole numbers, at most as large in size as their channels' bounds.
     pub fn frame(&mut self, ins: &[i64], outs: &mut [i64])
         requires ins { length ins.now ≡ ins_of self.old.kind }
         requires outs { length outs.old ≡ outs_of self.old.kind }
@@ -77,13 +81,7 @@ impl Fir {
         ensures kind { self.new.kind ≡ self.old.kind }
         ensures bound { self.new.bound ≡ self.old.bound }
     {
-        filter_each(
-            self.taps.as_slice(),
-            self.shift,
-            &mut self.lines,
-            ins,
-            outs,
-        );
+        filter_each(self.taps.as_slice(), self.shift, &mut self.lines, ins, outs);
     }
 }
 
@@ -94,9 +92,12 @@ fn filter_each(taps: &[i32], shift: u32, lines: &mut [Line], ins: &[i64], outs: 
     requires shift { shift ≤ 30 }
     requires ins { length ins.now ≡ length lines.old }
     requires outs { length outs.old ≡ length lines.old }
-    requires fits { (c : ℕ) → c < length lines.old → unsigned_abs (filtered taps.now shift (pushed (slice_index_or ins.now c (pos 0)) (line_at lines.old c)).items) ≤ 2 ^ 46 }
+    requires fits { (c : ℕ) → c < length lines.old →
+        unsigned_abs (filtered taps.now shift (pushed (slice_index_or ins.now c (pos 0)) (line_at lines.old c)).items) ≤ 2 ^ 46 }
     ensures lines { ArePushed lines.old ins.now lines.new }
-    ensures values { (c : ℕ) → c < length lines.old → slice_index_or outs.new c (pos 0) ≡ filtered taps.now shift (pushed (slice_index_or ins.now c (pos 0)) (line_at lines.old c)).items }
+    ensures values { (c : ℕ) → c < length lines.old →
+        slice_index_or outs.new c (pos 0)
+        ≡ filtered taps.now shift (pushed (slice_index_or ins.now c (pos 0)) (line_at lines.old c)).items }
 {
     for c in 0..lines.len() {
         let line = &mut lines[c];

@@ -12,7 +12,7 @@ use graph_model::{Bound, Kind, rs};
 use std::alloc::{AllocError, Global};
 use std::marker::Model;
 
-/// Multiplies each channel by the same number.
+/// A gain on each channel: `y(n) = rs(g * x(n), 16)`, where `rs(a, q)` is `a / 2^q` rounded to the nearest, a half upward.
 #[derive(Drop)]
 pub struct Gain {
     channels: u32,
@@ -32,7 +32,8 @@ impl Model for Gain {
 }
 
 impl Gain {
-    /// A gain that nothing has come into. It fails only for want of memory.
+    /// A gain that nothing has come into, of a kind in range and the bounds of such a node. It fails only for want of
+    /// memory.
     pub fn make(alloc: Global, kind: &Kind, bound: &Bound) -> Result<Self, AllocError>
         requires kind { IsGain kind.now }
         requires range { HasRange kind.now }
@@ -51,7 +52,8 @@ impl Gain {
         })
     }
 
-    /// Takes a frame, one sample for each channel, and gives the frame that goes out then.
+    /// Takes the frame `ins`, one sample for each input channel, and writes to `outs` the frame that goes out then, one
+    /// sample for each output channel. Samples are whole numbers, at most as large in size as their channels' bounds.
     pub fn frame(&mut self, ins: &[i64], outs: &mut [i64])
         requires ins { length ins.now ≡ ins_of self.old.kind }
         requires outs { length outs.old ≡ outs_of self.old.kind }
@@ -70,7 +72,8 @@ impl Gain {
 fn scale(gain: i32, ins: &[i64], outs: &mut [i64])
     requires count { length outs.old ≡ length ins.now }
     requires fits { (c : ℕ) → c < length ins.now → unsigned_abs (rounded (gain *ℤ slice_index_or ins.now c (pos 0)) 16) ≤ 2 ^ 46 }
-    ensures { (c : ℕ) → c < length ins.now → slice_index_or outs.new c (pos 0) ≡ rounded (gain *ℤ slice_index_or ins.now c (pos 0)) 16 }
+    ensures { (c : ℕ) → c < length ins.now →
+        slice_index_or outs.new c (pos 0) ≡ rounded (gain *ℤ slice_index_or ins.now c (pos 0)) 16 }
 {
     for c in 0..ins.len() {
         outs[c] = scaled(gain, ins[c]);

@@ -13,7 +13,7 @@ use graph_model::{Bound, Kind};
 use std::alloc::{AllocError, Global};
 use std::marker::Model;
 
-/// Gives the samples of each channel some frames late: a delay or an insert.
+/// A delay or an insert, which gives the samples of each channel some frames late: `y(n) = x(n - d)`, 0 before frame 0.
 #[derive(Drop)]
 pub struct Hold {
     kind: Kind,
@@ -36,7 +36,8 @@ impl Model for Hold {
 }
 
 impl Hold {
-    /// A delay or an insert that nothing has come into. It fails only for want of memory.
+    /// A delay or an insert that nothing has come into, of a kind in range and the bounds of such a node. It fails only
+    /// for want of memory.
     pub fn make(alloc: Global, kind: &Kind, bound: &Bound) -> Result<Self, AllocError>
         requires kind { IsHold kind.now }
         requires range { HasRange kind.now }
@@ -53,8 +54,9 @@ impl Hold {
         })
     }
 
-    /// Takes a frame, one sample for each channel, and gives the frame that goes out then. A sample that is held for
-    /// 0 frames goes out at once.
+    /// Takes the frame `ins`, one sample for each input channel, and writes to `outs` the frame that goes out then, one
+    /// sample for each output channel. Samples are whole numbers, at most as large in size as their channels' bounds.
+    /// An insert of 0 frames gives the frame that came in.
     pub fn frame(&mut self, ins: &[i64], outs: &mut [i64])
         requires ins { length ins.now ≡ ins_of self.old.kind }
         requires outs { length outs.old ≡ outs_of self.old.kind }
@@ -86,7 +88,9 @@ fn pass_each(lines: &mut [Line], ins: &[i64], outs: &mut [i64])
     requires ins { length ins.now ≡ length lines.old }
     requires outs { length outs.old ≡ length lines.old }
     ensures lines { ArePushed lines.old ins.now lines.new }
-    ensures values { (c : ℕ) → c < length lines.old → slice_index_or outs.new c (pos 0) ≡ ago (slice_index_or ins.now c (pos 0) ∷ (line_at lines.old c).items) (line_at lines.old c).capacity }
+    ensures values { (c : ℕ) → c < length lines.old →
+        slice_index_or outs.new c (pos 0)
+        ≡ ago (slice_index_or ins.now c (pos 0) ∷ (line_at lines.old c).items) (line_at lines.old c).capacity }
 {
     for c in 0..lines.len() {
         outs[c] = pass(&mut lines[c], ins[c]);

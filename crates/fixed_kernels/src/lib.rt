@@ -9,6 +9,8 @@
 //! kind's stream of what came in, for every history; that no output passes its bound where no input does, and that no
 //! sum and no cast loses anything; that a frame takes no memory and is never refused.
 //!
+//! Kernels of other crates stand on its delay lines and on its words for kernels.
+//!
 //! It stands on `graph_model`, and on `circular_buffer` for the delay lines.
 #![tactic(auto)]
 
@@ -25,7 +27,9 @@ mod section;
 mod tests;
 
 pub use biquad::Biquad;
+pub use bounds::copy_of;
 pub use fir::Fir;
 pub use gain::Gain;
 pub use hold::Hold;
+pub use lines::{Line, silent_lines};
 pub use mixer::Mixer;

@@ -13,7 +13,8 @@ use graph_model::{Bound, Kind, List, rs};
 use std::alloc::{AllocError, Global};
 use std::marker::Model;
 
-/// Makes each output channel a weighted sum of the input channels.
+/// Output channels that are sums of the input channels times gains: `y_o(n) = rs(sum over i of g_oi * x_i(n), 16)`, where
+/// `rs(a, q)` is `a / 2^q` rounded to the nearest, a half upward.
 #[derive(Drop)]
 pub struct Mixer {
     ins: u32,
@@ -34,7 +35,8 @@ impl Model for Mixer {
 }
 
 impl Mixer {
-    /// A mixer that nothing has come into. It fails only for want of memory.
+    /// A mixer that nothing has come into, of a kind in range and the bounds of such a node. It fails only for want of
+    /// memory.
     pub fn make(alloc: Global, kind: &Kind, bound: &Bound) -> Result<Self, AllocError>
         requires kind { IsMixer kind.now }
         requires range { HasRange kind.now }
@@ -54,8 +56,8 @@ impl Mixer {
         })
     }
 
-    /// Takes a frame, one sample for each input channel, and gives the frame that goes out then, one sample for each
-    /// output channel.
+    /// Takes the frame `ins`, one sample for each input channel, and writes to `outs` the frame that goes out then, one
+    /// sample for each output channel. Samples are whole numbers, at most as large in size as their channels' bounds.
     pub fn frame(&mut self, ins: &[i64], outs: &mut [i64])
         requires ins { length ins.now ≡ ins_of self.old.kind }
         requires outs { length outs.old ≡ outs_of self.old.kind }
@@ -74,8 +76,10 @@ impl Mixer {
 fn mix(gains: &[i32], ins: &[i64], outs: &mut [i64])
     requires few { length ins.now ≤ 32 }
     requires gains { length gains.now ≡ length outs.old * length ins.now }
-    requires fits { (o : ℕ) → o < length outs.old → unsigned_abs (rounded (products (gains_to (length ins.now) gains.now o) ins.now) 16) ≤ 2 ^ 46 }
-    ensures { (o : ℕ) → o < length outs.old → slice_index_or outs.new o (pos 0) ≡ rounded (products (gains_to (length ins.now) gains.now o) ins.now) 16 }
+    requires fits { (o : ℕ) → o < length outs.old →
+        unsigned_abs (rounded (products (gains_to (length ins.now) gains.now o) ins.now) 16) ≤ 2 ^ 46 }
+    ensures { (o : ℕ) → o < length outs.old →
+        slice_index_or outs.new o (pos 0) ≡ rounded (products (gains_to (length ins.now) gains.now o) ins.now) 16 }
 {
     for o in 0..outs.len() {
         outs[o] = weighed(&gains[o * ins.len()..][..ins.len()], ins);

@@ -46,7 +46,9 @@ impl Section {
 
     /// The sum of the coefficients times the samples that they weigh.
     fn weigh(&self, tail: &Tail, sample: i64) -> i128
-        ensures value { result ≡ ((((self.now.b0 *ℤ sample) +ℤ (self.now.b1 *ℤ tail.now.x1)) +ℤ (self.now.b2 *ℤ tail.now.x2)) -ℤ (self.now.a1 *ℤ tail.now.y1)) -ℤ (self.now.a2 *ℤ tail.now.y2) }
+        ensures value { result
+            ≡ ((((self.now.b0 *ℤ sample) +ℤ (self.now.b1 *ℤ tail.now.x1)) +ℤ (self.now.b2 *ℤ tail.now.x2))
+            -ℤ (self.now.a1 *ℤ tail.now.y1)) -ℤ (self.now.a2 *ℤ tail.now.y2) }
         ensures size { unsigned_abs result ≤ 2 ^ 97 }
     {
         let ins = plus_product(product(self.b0, sample), self.b1, tail.x1);

@@ -1,17 +1,16 @@
 -- A sound graph has 1 to 32 channels at each end.
-use Rattle.std.proofs.Common.{◌≡◌, ℕ, ◌≤◌, ◌<◌, length, get_or, Bool, true, false, Some, None, refl, sym, ap, ◌∙◌, subst}
+use Rattle.std.proofs.Common.{◌≡◌, ℕ, ◌≤◌, get_or, true, Some, None, refl, sym, ap, ◌∙◌}
 use Rattle.std.specs.List.{position}
 use Rattle.std.specs.Option.{IsSome, is_some}
 use Rattle.std.proofs.lemmas.Bool.{false≢true}
 use Rattle.graph_model.specs.Kinds.{ins_of, outs_of}
 use Rattle.graph_model.specs.Ranges.{HasRange}
-use Rattle.graph_model.specs.Graphs.{is_input, is_output, ins_at, output_name}
+use Rattle.graph_model.specs.Graphs.{is_input, is_output, ins_at}
 use Rattle.graph_model.specs.Sound.{IsSound}
 use Rattle.graph_model.specs.declared.kind.Kind.{Kind}
 use Rattle.graph_model.specs.declared.kind.Kind.TheVariants.{Input, Output}
 use Rattle.graph_model.specs.declared.graph.Node.{Node}
 use Rattle.graph_model.specs.declared.graph.Graph.{Graph}
-use Rattle.topology.specs.Named.{uid_at}
 use Rattle.topology.proofs.NameFacts.{any_node}
 use Rattle.topology.proofs.OutputFacts.{output_found, output_named}
 use Rattle.renderer.proofs.NodeFacts.{has_place, input_exists, input_found, ins_is, position_found, range_at}

@@ -1,6 +1,6 @@
 -- Why the steps of a run end, and what they leave.
 use Rattle.std.proofs.Common.{◌≡◌, ℕ, ℤ, List, take, Option, Some, None, ◌+◌, ◌*◌, ◌/◌, ◌<◌, ◌≤◌, length, arith, refl, sym, ap, ◌∙◌, subst, inl, inr}
-use Rattle.std.specs.Prelude.{◌⊎◌, Result, Ok, Err}
+use Rattle.std.specs.Prelude.{Ok, Err}
 use Rattle.graph_model.specs.declared.graph.Graph.{Graph}
 use Rattle.gh_outside.specs.Holdings.{Holding, Holds, HeldBytes, IsMissing, IsPast}
 use Rattle.wav_pcm.specs.Files.{ReadsAs, data_size, recorded}
@@ -8,10 +8,9 @@ use Rattle.wav_pcm.specs.declared.head.Head.{Head}
 use Rattle.wav_pcm.specs.declared.head.WavFault.{WavFault}
 use Rattle.wav_pcm.proofs.OkLaws.{frames_are_there}
 use Rattle.std.specs.Option.{IfSome}
-use Rattle.graph_host.specs.Causes.{IsRefusal, IsGraphEnd, IsInputEnd, HasInputEnd, IsReadEnd, HasEnd, IsEndOf, IsToldEnd, IsCaused, Stops, plain}
-use Rattle.graph_host.specs.Laws.{EndIsOne}
+use Rattle.graph_host.specs.Causes.{IsRefusal, IsGraphEnd, IsInputEnd, IsReadEnd, Stops}
 use Rattle.graph_host.specs.Outputs.{data_bytes, in_channels, output_of}
-use Rattle.graph_host.specs.Readings.{HoldsGraph, HoldsRecording, IsWritten, IsBegun, MayBeReady}
+use Rattle.graph_host.specs.Readings.{IsWritten, IsBegun, MayBeReady}
 use Rattle.graph_host.specs.Requests.{Request}
 use Rattle.graph_model.specs.Sound.{IsSound}
 use Rattle.graph_host.specs.Files.{rendered}

@@ -17,9 +17,9 @@ use Rattle.wav_pcm.specs.Files.{ReadsAs}
 use Rattle.wav_pcm.proofs.HeadLaws.{reading_is_one}
 use Rattle.wav_pcm.specs.declared.head.Head.{Head}
 use Rattle.wav_pcm.specs.declared.head.WavFault.{WavFault}
-use Rattle.graph_host.specs.Causes.{IsGraphEnd, HasWavFault, IsInputEnd, HasInputEnd, IsReadEnd, HasEnd, IsEndOf, IsToldEnd, IsCaused, Stops, plain}
+use Rattle.graph_host.specs.Causes.{IsGraphEnd, HasWavFault, IsInputEnd, IsReadEnd, HasEnd, IsEndOf, IsToldEnd, IsCaused, Stops, plain}
 use Rattle.graph_host.specs.Outputs.{data_bytes, in_channels}
-use Rattle.graph_host.specs.Readings.{HoldsRecords, HoldsGraph, HoldsRecording, IsReady, MayBeReady}
+use Rattle.graph_host.specs.Readings.{HoldsRecords, HoldsGraph, IsReady, MayBeReady}
 use Rattle.graph_host.specs.Requests.{Request}
 use Rattle.graph_host.specs.declared.ends.End.{End}
 use Rattle.graph_host.specs.declared.ends.End.TheVariants.{Done, Words, SameName, Records, Graph as Checks, NotBuilt, Wav, ReadFault, WriteFault, Memory}

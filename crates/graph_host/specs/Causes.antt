@@ -12,7 +12,7 @@ use Rattle.wav_pcm.specs.declared.head.Head.{Head}
 use Rattle.wav_pcm.specs.declared.head.WavFault.{WavFault}
 use Rattle.wav_pcm.specs.declared.head.WavFault.TheVariants.{TooLong}
 use Rattle.graph_host.specs.Outputs.{data_bytes, in_channels}
-use Rattle.graph_host.specs.Readings.{HoldsRecords, HoldsGraph, IsReady, MayBeReady}
+use Rattle.graph_host.specs.Readings.{HoldsRecords, HoldsGraph, MayBeReady}
 use Rattle.graph_host.specs.Requests.{Request}
 use Rattle.graph_host.specs.declared.ends.End.{End}
 use Rattle.graph_host.specs.declared.ends.End.TheVariants.{Done, SameName, Records, Graph as Checks, NotBuilt, Wav, ReadFault, WriteFault, Memory}

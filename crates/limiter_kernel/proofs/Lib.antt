@@ -2,9 +2,9 @@ pub mod RunLaws
 pub mod MinimumLaws
 pub mod WindowLaws
 pub mod ScaleLaws
-pub mod KernelFacts
 pub mod LineLaws
 pub mod LimiterFacts
 pub mod FrameFacts
 pub mod MadeFacts
 pub mod TestFacts
+pub mod Examples

@@ -1,6 +1,5 @@
-pub mod Kernels
 pub mod Types
-pub mod Lines
 pub mod Minima
 pub mod Averages
+pub mod Gains
 pub mod States

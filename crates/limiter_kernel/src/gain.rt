@@ -1,7 +1,8 @@
 //! Scales and gains, in units of 2^-30.
 
-ghost use Rattle.std.specs.Prelude.{◌≡◌, ◌^◌, ◌≤◌, ◌*ℤ◌, int_div, pos, unsigned_abs};
+ghost use Rattle.std.specs.Prelude.{◌≡◌, ◌^◌, ◌≤◌, unsigned_abs};
 ghost use Rattle.graph_model.specs.Limiters.{peak, scale};
+ghost use Rattle.limiter_kernel.specs.Gains.{at_gain};
 
 /// The scale that leaves a frame as it is.
 pub(crate) const UNITY: u64 = 1 << 30;
@@ -34,7 +35,7 @@ pub(crate) fn scale_of(threshold: u64, frame: &[i64]) -> u64
 pub(crate) fn limited_sample(sample: i64, gain: u64) -> i64
     requires gain { gain ≤ 2 ^ 30 }
     requires small { unsigned_abs sample ≤ 2 ^ 46 }
-    ensures { result ≡ int_div (sample *ℤ pos gain) (pos (2 ^ 30)) }
+    ensures { result ≡ at_gain sample gain }
 {
     (sample as i128 * gain as i128 / UNITY as i128) as i64
 }

@@ -1,39 +1,45 @@
 //! The limiter.
 
-ghost use Rattle.std.specs.Prelude.{◌≡◌, ℕ, ◌<◌, ◌≤◌, ◌^◌, [], ◌∷◌, ◌*ℤ◌, IfOk, int_div, length, pos, slice_index_or, unsigned_abs};
+ghost use Rattle.std.specs.Prelude.{◌≡◌, ℕ, ◌<◌, ◌≤◌, ◌^◌, [], ◌∷◌, IfOk, length, pos, slice_index_or, unsigned_abs};
 ghost use Rattle.std.specs.List.{All};
-ghost use Rattle.graph_model.specs.Histories.{History, ago, newest, sample};
+ghost use Rattle.graph_model.specs.Histories.{History, newest};
 ghost use Rattle.graph_model.specs.Kinds.{ins_of, latency_of, outs_of, stream_of};
 ghost use Rattle.graph_model.specs.Ranges.{HasRange};
-ghost use Rattle.limiter_kernel.specs.Kernels.{IsBoundOf, IsFrameWithin, Stands};
-ghost use Rattle.limiter_kernel.specs.Lines.{ArePushed, line_at, pushed};
+ghost use Rattle.limiter_kernel.specs.Gains.{IsQuieter, at_gain, delayed_at};
+ghost use Rattle.fixed_kernels.specs.Kernels.{IsBoundOf, IsFrameWithin, Stands};
+ghost use Rattle.fixed_kernels.specs.Lines.{ArePushed};
 ghost use Rattle.limiter_kernel.specs.Types.{IsLimiter, threshold_of};
 
 use crate::average::MovingAverage;
 use crate::gain::{UNITY, limited_sample, scale_of};
-use crate::lines::{Line, delayed_sample, silent_lines};
+use crate::lines::delayed_sample;
 use crate::minimum::SlidingMinimum;
+use fixed_kernels::{Line, copy_of, silent_lines};
 use graph_model::{Bound, Kind};
 use std::alloc::{AllocError, Global};
 use std::marker::Model;
 
-/// Turns a frame down before a peak comes out: a look-ahead limiter. The output is late by the lookahead, in frames.
+/// A look-ahead limiter: no output passes the threshold in size. The frame that goes out is the one that came
+/// `lookahead` frames before, or zeros, times a gain. The scale of a frame brings its peak, over all channels, down to
+/// the threshold, and is 1 where the peak is not above it; the gain is the mean, over the last `lookahead + 1` frames,
+/// of the least scale of the `lookahead + 1` frames up to each. Scales and gains are whole numbers of 2^-30, rounded
+/// down, and samples are rounded toward zero.
 #[derive(Drop)]
 pub struct Limiter {
     threshold: u64,
     lookahead: u32,
     /// How large the samples can be, as it was given to `make`.
     bound: Bound,
-    /// The input frames of the lookahead and one more, a line for each channel.
+    /// The last `lookahead + 1` input frames, a line for each channel.
     lines: Vec<Line>,
-    /// The scales of those frames.
+    /// The least of the scales of those frames.
     scales: SlidingMinimum,
-    /// The least scales of the last windows.
+    /// The mean of the last `lookahead + 1` of these least scales.
     lowests: MovingAverage,
 }
 
 impl Model for Limiter {
-    ghost use Rattle.limiter_kernel.specs.Kernels.{KernelState};
+    ghost use Rattle.fixed_kernels.specs.Kernels.{KernelState};
     ghost use Rattle.limiter_kernel.specs.States.{AreLimiterFields, limiter_state};
 
     ghost Value = { KernelState };
@@ -44,8 +50,8 @@ impl Model for Limiter {
 }
 
 impl Limiter {
-    /// A limiter that nothing has come into, with bounds in the units of the samples. It takes all its memory here, and
-    /// fails only for want of it.
+    /// A limiter that nothing has come into, whose samples are within these bounds, one for each channel. All its
+    /// memory is taken here, and it fails only for want of it.
     pub fn make(alloc: Global, kind: &Kind, bound: &Bound) -> Result<Self, AllocError>
         requires kind { IsLimiter kind.now }
         requires range { HasRange kind.now }
@@ -73,8 +79,8 @@ impl Limiter {
         })
     }
 
-    /// Takes a frame, one sample for each channel, and gives the frame that goes out then: the one that came the
-    /// lookahead before, times the gain. It takes no memory.
+    /// Takes a frame, one sample for each channel, and gives the frame that goes out then. It takes no memory and is
+    /// never refused.
     pub fn frame(&mut self, ins: &[i64], outs: &mut [i64])
         requires ins { length ins.now ≡ ins_of self.old.kind }
         requires outs { length outs.old ≡ outs_of self.old.kind }
@@ -87,7 +93,8 @@ impl Limiter {
 
         // No output exceeds the threshold, nor the sample that it is made of.
         ensures threshold { All (λ y. unsigned_abs y ≤ threshold_of self.old.kind) outs.new }
-        ensures quieter { (h : History) → Stands self.old h → (c : ℕ) → unsigned_abs (slice_index_or outs.new c (pos 0)) ≤ unsigned_abs (sample (ins.now ∷ h) c (latency_of self.old.kind)) }
+        ensures quieter { (h : History) → Stands self.old h →
+            IsQuieter outs.new (slice_index_or (ins.now ∷ h) (latency_of self.old.kind) []) }
     {
         let lowest = self.scales.push(scale_of(self.threshold, ins));
         let gain = self.lowests.push(lowest);
@@ -95,24 +102,16 @@ impl Limiter {
     }
 }
 
-/// Equal bounds.
-fn copy_of(alloc: Global, bound: &Bound) -> Result<Bound, AllocError>
-    ensures { IfOk result (λ copy. copy ≡ bound.now) }
-{
-    Ok(Bound {
-        ins: bound.ins.copy(alloc)?,
-        outs: bound.outs.copy(alloc)?,
-    })
-}
-
 /// Puts the sample of each channel into its line, and gives the one that came the lookahead before, times the gain.
 fn limit_each(lines: &mut [Line], lookahead: u32, gain: u64, ins: &[i64], outs: &mut [i64])
     requires gain { gain ≤ 2 ^ 30 }
     requires ins { length ins.now ≡ length lines.old }
     requires outs { length outs.old ≡ length lines.old }
-    requires small { (c : ℕ) → c < length lines.old → unsigned_abs (ago (pushed (slice_index_or ins.now c (pos 0)) (line_at lines.old c)).items lookahead) ≤ 2 ^ 46 }
+    requires small { (c : ℕ) → c < length lines.old →
+        unsigned_abs (delayed_at lines.old ins.now lookahead c) ≤ 2 ^ 46 }
     ensures lines { ArePushed lines.old ins.now lines.new }
-    ensures values { (c : ℕ) → c < length lines.old → slice_index_or outs.new c (pos 0) ≡ int_div (ago (pushed (slice_index_or ins.now c (pos 0)) (line_at lines.old c)).items lookahead *ℤ pos gain) (pos (2 ^ 30)) }
+    ensures values { (c : ℕ) → c < length lines.old →
+        slice_index_or outs.new c (pos 0) ≡ at_gain (delayed_at lines.old ins.now lookahead c) gain }
 {
     for c in 0..lines.len() {
         let delayed = delayed_sample(&mut lines[c], ins[c], lookahead as usize);

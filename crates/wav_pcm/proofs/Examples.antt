@@ -1,17 +1,16 @@
 -- The definitions at small files, by computation.
-use Rattle.std.proofs.Common.{◌≡◌, ◌<◌, ℕ, List, [], ◌∷◌, ◌++◌, ◌+◌, ◌%◌, length, take, ℤ, pos, negsuc, inl, inr, refl, sym, ap, ◌∙◌, arith}
-use Rattle.std.specs.Prelude.{Result, Ok, Err, codes, replicate}
+use Rattle.std.proofs.Common.{◌≡◌, ℕ, List, [], ◌∷◌, ◌++◌, ◌+◌, ◌%◌, length, take, ℤ, pos, negsuc, inl, inr, refl, sym, ◌∙◌, arith}
+use Rattle.std.specs.Prelude.{Ok, Err, codes, replicate}
 use Rattle.byteorder.specs.Endian.{little_bytes}
 use Rattle.wav_pcm.specs.Samples.{samples_in, bytes_of}
 use Rattle.wav_pcm.specs.Heads.{head_of, wave_file_of}
-use Rattle.wav_pcm.specs.Chunks.{u32_at, AreChunks}
+use Rattle.wav_pcm.specs.Chunks.{u32_at}
 use Rattle.wav_pcm.specs.Formats.{pcm_subformat}
 use Rattle.wav_pcm.specs.Files.{ReadsAs, recorded}
 use Rattle.wav_pcm.specs.Laws.{written_head}
 use Rattle.wav_pcm.specs.declared.chunk.Chunk.{Chunk}
 use Rattle.wav_pcm.specs.declared.head.Head.{Head}
-use Rattle.wav_pcm.specs.declared.head.WavFault.{WavFault}
-use Rattle.wav_pcm.specs.declared.head.WavFault.TheVariants.{NotRiff, NoFormat, FormatSize, Form, Rate, Channels, NoData, Short, Ragged}
+use Rattle.wav_pcm.specs.declared.head.WavFault.TheVariants.{NotRiff, NoFormat, FormatSize, Form, Channels, NoData, Short, Ragged}
 use Rattle.wav_pcm.proofs.HeadLaws.{reading_is_one}
 
 -- 100, -200, 300, each times 65536

@@ -1,6 +1,6 @@
 -- What is written is read as it was written.
-use Rattle.std.proofs.Common.{◌≡◌, ◌<◌, ◌≤◌, ◌+◌, ◌-◌, ◌*◌, ◌/◌, ◌%◌, ◌∙◌, ◌++◌, ◌==◌, ◌&&◌, ℕ, ℤ, Bool, true, false, not, List, [], ◌∷◌, length, take, drop, Option, Some, None, inl, inr, refl, sym, ap, subst, arith, append_assoc, append-nil, length-append}
-use Rattle.std.specs.Prelude.{Result, Ok, Err, replicate, codes, find, nat_le, if◌then◌else◌}
+use Rattle.std.proofs.Common.{◌≡◌, ◌<◌, ◌≤◌, ◌+◌, ◌-◌, ◌*◌, ◌/◌, ◌%◌, ◌∙◌, ◌++◌, ◌==◌, ◌&&◌, ℕ, ℤ, true, List, [], ◌∷◌, length, take, drop, Some, None, inl, inr, refl, sym, ap, subst, arith, append_assoc, append-nil, length-append}
+use Rattle.std.specs.Prelude.{Ok, Err, replicate, codes, nat_le, if◌then◌else◌}
 use Rattle.std.proofs.Math.Nat.{mul-mod_left, mul-div_left, mul_assoc}
 use Rattle.std.proofs.lemmas.Bool.{le-leb, eq-eqb, ne_eqb, and_from}
 use Rattle.std.proofs.lemmas.List.{drop_at, take-append-le, take_all}
@@ -8,14 +8,12 @@ use Rattle.byteorder.specs.Numbers.{little_number-reads_back}
 use Rattle.graph_model.specs.Refusals.{and_then}
 use Rattle.wav_pcm.specs.Samples.{IsSize, samples_in, bytes_of}
 use Rattle.wav_pcm.specs.Heads.{head_of, wave_file_of}
-use Rattle.wav_pcm.specs.Chunks.{u16_at, u32_at, chunk_at, is_format, is_data, AreChunks}
+use Rattle.wav_pcm.specs.Chunks.{u16_at, u32_at, chunk_at, AreChunks}
 use Rattle.wav_pcm.specs.Formats.{whole_format, format_in, is_pcm, checked_format}
-use Rattle.wav_pcm.specs.Files.{is_wave_start, is_wave, frames_in, head_in, head_by, reading, ReadsAs, recorded, data_size}
-use Rattle.wav_pcm.specs.Laws.{WrittenIsReadBack, IsScaledFrom, written_head}
+use Rattle.wav_pcm.specs.Files.{is_wave_start, is_wave, frames_in, head_in, ReadsAs, recorded}
+use Rattle.wav_pcm.specs.Laws.{WrittenIsReadBack, written_head}
 use Rattle.wav_pcm.specs.declared.chunk.Chunk.{Chunk}
 use Rattle.wav_pcm.specs.declared.format.Format.{Format}
-use Rattle.wav_pcm.specs.declared.head.Head.{Head}
-use Rattle.wav_pcm.specs.declared.head.WavFault.{WavFault}
 use Rattle.wav_pcm.specs.declared.head.WavFault.TheVariants as fault
 use Rattle.wav_pcm.proofs.Sizes.{by_size}
 use Rattle.wav_pcm.proofs.SampleLaws.{length-bytes_of}

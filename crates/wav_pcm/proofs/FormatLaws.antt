@@ -1,13 +1,11 @@
 -- A format in the bytes of its chunk.
-use Rattle.std.proofs.Common.{◌≡◌, ℕ, ◌+◌, ◌-◌, ◌<◌, ◌≤◌, Bool, true, false, List, length, take, drop, length-drop, Option, Some, None, refl, sym, ap, ◌∙◌, arith, cond, ◌==◌}
+use Rattle.std.proofs.Common.{◌≡◌, ℕ, ◌+◌, true, List, length, take, drop, length-drop, Option, Some, None, sym, ap, ◌∙◌, arith, cond, ◌==◌}
 use Rattle.std.specs.Prelude.{slice_range}
 use Rattle.std.proofs.lemmas.List.{take_all}
-use Rattle.std.proofs.lemmas.Bool.Decides.{nat_tests}
 use Rattle.wav_pcm.specs.Chunks.{u16_at, u32_at}
 use Rattle.wav_pcm.specs.Formats.{extension_at, extension_in, format_in}
 use Rattle.wav_pcm.specs.declared.chunk.Chunk.{Chunk}
 use Rattle.wav_pcm.specs.declared.format.Extension.{Extension}
-use Rattle.wav_pcm.specs.declared.format.Format.{Format}
 use Rattle.wav_pcm.proofs.Told.{part_in, number_in}
 
 -- an extension in its 24 bytes

@@ -1,12 +1,12 @@
 -- How a file is read by its chunks of format and of data.
-use Rattle.std.proofs.Common.{◌≡◌, ℕ, ◌+◌, ◌-◌, ◌*◌, ◌/◌, ◌%◌, ◌^◌, ◌<◌, ◌≤◌, Bool, true, false, List, length, take, drop, Option, Some, None, refl, sym, ap, ◌∙◌, subst, arith, cond, ◌&&◌}
+use Rattle.std.proofs.Common.{◌≡◌, ℕ, ◌<◌, ◌≤◌, true, false, List, length, Option, refl, sym, ap, ◌∙◌, arith, ◌&&◌}
 use Rattle.std.specs.Prelude.{Result, Ok, Err, slice_range, codes, find, if◌then◌else◌}
 use Rattle.std.specs.Str.{bytes_eq}
 use Rattle.std.proofs.lemmas.Bool.{le-leb}
 use Rattle.std.proofs.lemmas.Bool.Decides.{nat_tests}
 use Rattle.std.proofs.Math.Dec.{leb}
 use Rattle.graph_model.specs.Refusals.{and_then}
-use Rattle.wav_pcm.specs.Chunks.{AreChunks, mark_at, is_format, is_data}
+use Rattle.wav_pcm.specs.Chunks.{mark_at, is_format, is_data}
 use Rattle.wav_pcm.specs.Formats.{whole_format, format_in, checked_format}
 use Rattle.wav_pcm.specs.Files.{is_wave_start, is_wave, head_in, head_by, reading, ReadsAs}
 use Rattle.wav_pcm.specs.Laws.{ReadingIsOne}
@@ -70,7 +70,7 @@ by_format graph bytes first chunk whole format is checks =
     ∙ ap (and_then (λ w. and_then (λ f. head_in (length bytes) f chunk) (checked_format graph (format_in bytes w)))) is
 
 -- every file is read in one way
-reads_unique : (graph : ℕ) (bytes : List ℕ) (a b : Result Head WavFault) → ReadsAs graph bytes a → ReadsAs graph bytes b → a ≡ b
+pub reads_unique : (graph : ℕ) (bytes : List ℕ) (a b : Result Head WavFault) → ReadsAs graph bytes a → ReadsAs graph bytes b → a ≡ b
 reads_unique graph bytes a b p q = p.2 ∙ ap (reading graph bytes) (chunks_unique 12 bytes p.0 q.0 p.1 q.1) ∙ sym q.2
 
 pub reading_is_one : ReadingIsOne

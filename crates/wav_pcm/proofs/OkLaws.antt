@@ -1,18 +1,17 @@
 -- What a head that is read says.
-use Rattle.std.proofs.Common.{◌≡◌, ℕ, ◌+◌, ◌-◌, ◌*◌, ◌/◌, ◌%◌, ◌^◌, ◌<◌, ◌≤◌, Bool, true, false, not, List, [], ◌∷◌, length, Option, Some, None, inl, inr, refl, sym, ap, ◌∙◌, subst, arith, cond, ◌&&◌, ◌||◌, ◌==◌, ◌⊎◌}
+use Rattle.std.proofs.Common.{◌≡◌, ℕ, ◌+◌, ◌-◌, ◌*◌, ◌/◌, ◌%◌, ◌^◌, ◌<◌, ◌≤◌, Bool, true, false, List, [], ◌∷◌, length, Option, Some, None, inl, inr, refl, sym, subst, arith, cond, ◌&&◌, ◌||◌, ◌==◌, ◌⊎◌}
 use Rattle.std.specs.Prelude.{Result, Ok, Err, IfSome, find, nat_le, if◌then◌else◌}
 use Rattle.std.proofs.Math.Nat.{div-mul-le_self}
 use Rattle.std.proofs.lemmas.Bool.{leb-true, eqb-true}
 use Rattle.graph_model.specs.Refusals.{and_then}
 use Rattle.wav_pcm.specs.Samples.{IsSize}
-use Rattle.wav_pcm.specs.Chunks.{AreChunks, chunk_at, after, is_format, is_data}
-use Rattle.wav_pcm.specs.Formats.{whole_format, format_in, is_pcm_extension, is_pcm, checked_format}
-use Rattle.wav_pcm.specs.Files.{is_wave, frames_in, head_in, head_by, reading, ReadsAs, data_size, IsHead}
+use Rattle.wav_pcm.specs.Chunks.{AreChunks, after, is_format, is_data}
+use Rattle.wav_pcm.specs.Formats.{whole_format, format_in, is_pcm, checked_format}
+use Rattle.wav_pcm.specs.Files.{is_wave, frames_in, head_in, head_by, data_size, IsHead}
 use Rattle.wav_pcm.specs.Laws.{FramesAreThere}
 use Rattle.wav_pcm.specs.declared.chunk.Chunk.{Chunk}
 use Rattle.wav_pcm.specs.declared.format.Format.{Format}
 use Rattle.wav_pcm.specs.declared.head.Head.{Head}
-use Rattle.wav_pcm.specs.declared.head.WavFault.{WavFault}
 use Rattle.wav_pcm.specs.declared.head.WavFault.TheVariants as fault
 
 -- what an Ok of two steps, or of a test, came from

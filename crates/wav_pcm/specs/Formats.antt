@@ -1,5 +1,5 @@
 -- What a chunk of format says, and which formats are read.
-use Rattle.std.specs.Prelude.{ℕ, ◌+◌, ◌==◌, ◌&&◌, ◌||◌, List, [], ◌∷◌, take, drop, Bool, false, nat_le, nat_lt, if◌then◌else◌, Option, Some, None, Result, Ok, Err}
+use Rattle.std.specs.Prelude.{ℕ, ◌+◌, ◌==◌, ◌&&◌, ◌||◌, List, [], ◌∷◌, take, drop, Bool, false, nat_le, if◌then◌else◌, Option, Some, None, Result, Ok, Err}
 use Rattle.std.specs.Str.{bytes_eq}
 use Rattle.wav_pcm.specs.Chunks.{u16_at, u32_at}
 use Rattle.wav_pcm.specs.declared.chunk.Chunk.{Chunk}

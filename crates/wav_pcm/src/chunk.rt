@@ -45,10 +45,10 @@ impl Chunk {
 /// The chunks of a file that are read.
 #[derive(Clone, Copy, Debug, PartialEq, Eq)]
 pub(crate) struct Chunks {
-    /// The first chunk of format before the data.
-    pub(crate) format: Option<Chunk>,
+    /// The first chunk of format, if it comes before the data.
+    pub(crate) first_format: Option<Chunk>,
     /// The first chunk of data.
-    pub(crate) data: Option<Chunk>,
+    pub(crate) first_data: Option<Chunk>,
 }
 
 /// Goes from chunk to chunk, from offset 12 on, in a file of this size, until a chunk of data or
@@ -61,8 +61,8 @@ pub(crate) fn read_chunks<F: Folder>(
     requires there { ¬ IsPast name.now size (F.held folder.old) }
     ensures held { F.held folder.new ≡ F.held folder.old }
     ensures found { IfOk result (λ chunks. HeldBytes name.now (F.held folder.old) (λ bytes. size ≡ length bytes
-        → (all : List Chunk) × AreChunks 12 bytes all × (chunks.format ≡ find is_format all) × (chunks.data ≡ find is_data all))) }
-    ensures within { IfOk result (λ chunks. IfSome chunks.data (λ chunk. chunk.from ≤ size)) }
+        → (all : List Chunk) × AreChunks 12 bytes all × (chunks.first_format ≡ find is_format all) × (chunks.first_data ≡ find is_data all))) }
+    ensures within { IfOk result (λ chunks. IfSome chunks.first_data (λ chunk. chunk.from ≤ size)) }
     ensures failed { OnErr result (Rose (F.read_faults folder.old) (F.read_faults folder.new)) }
     ensures reads { F.read_faults folder.old ≤ F.read_faults folder.new }
     ensures writes { F.write_faults folder.new ≡ F.write_faults folder.old }
@@ -73,14 +73,17 @@ pub(crate) fn read_chunks<F: Folder>(
         let chunk = read_chunk(folder, name, at)?;
         if chunk.is_data() {
             return Ok(Chunks {
-                format,
-                data: Some(chunk),
+                first_format: format,
+                first_data: Some(chunk),
             });
         }
         format = format.or(chunk.is_format().then_some(chunk));
         at = chunk.after();
     }
-    Ok(Chunks { format, data: None })
+    Ok(Chunks {
+        first_format: format,
+        first_data: None,
+    })
 }
 
 /// The chunk at an offset.

@@ -49,9 +49,9 @@ pub fn read_head<F: Folder>(folder: &mut F, name: &str, graph: u32) -> Result<He
         return Err(HeadFault::Wav(WavFault::NotRiff));
     }
     let chunks = read_chunks(folder, name, size)?;
-    let chunk = whole_format(size, chunks.format)?;
+    let chunk = whole_format(size, chunks.first_format)?;
     let format = read_format(folder, name, &chunk)?.checked(graph)?;
-    Ok(head_in(size, &format, chunks.data)?)
+    Ok(head_in(size, &format, chunks.first_data)?)
 }
 
 /// Leaves in `into` the samples of as many frames as it holds, from frame `first` on, interleaved

@@ -1,4 +1,4 @@
-use Rattle.std.proofs.Common.{rules, arith, ◌≡◌, ℕ, ◌+◌, ◌<◌, ◌≤◌, get_or, length, List, ℤ, pos, sym, ap, ◌∙◌, subst, w64, FitsSigned, to_z, of_z}
+use Rattle.std.proofs.Common.{rules, arith, ◌≡◌, ℕ, ◌+◌, ◌<◌, get_or, List, ℤ, pos, sym, ◌∙◌, subst, w64, FitsSigned, to_z, of_z}
 use Rattle.std.specs.Prelude.{slice_set}
 use Rattle.std.proofs.lemmas.Int.{to_z-of_z}
 use Rattle.std.proofs.lemmas.List.{get_or-set_other}
@@ -21,9 +21,9 @@ loop-c-preserved c =
     let same : tail_at tails i ≡ tail_at old i = c.loop-c.invariant.left i (omega arith) in
     let put : to_z w64 (of_z w64 (get_or ins i (pos 0))) ≡ get_or ins i (pos 0) = to_z-of_z w64 (get_or ins i (pos 0)) sample in
     let tail : c.step.new.tail ≡ next_tail s (tail_at old i) (get_or ins i (pos 0))
-        = c.step.ensures.tail ∙ (λ j. next_tail s (same j) (put j)) in
+    = c.step.ensures.tail ∙ (λ j. next_tail s (same j) (put j)) in
     let out : to_z w64 (of_z w64 c.step.result) ≡ next_out s (tail_at old i) (get_or ins i (pos 0))
-        = to_z-of_z w64 c.step.result result ∙ c.step.ensures.value ∙ (λ j. next_out s (same j) (put j)) in
+    = to_z-of_z w64 c.step.result result ∙ c.step.ensures.value ∙ (λ j. next_out s (same j) (put j)) in
     record {
       done = subst (λ (t : Tail). (k : ℕ) → k < i + 1 → tail_at (slice_set tails i t) k ≡ next_tail s (tail_at old k) (get_or ins k (pos 0)))
           (sym tail)

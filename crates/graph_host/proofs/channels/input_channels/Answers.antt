@@ -1,4 +1,4 @@
-use Rattle.std.proofs.Common.{◌≡◌, ◌≤◌, ◌∙◌, sym, ap, Some, get_or, subst}
+use Rattle.std.proofs.Common.{◌≡◌, ◌≤◌, ◌∙◌, sym, ap, Some, get_or}
 use Rattle.std.specs.List.{position}
 use Rattle.graph_model.specs.Graphs.{is_input}
 use Rattle.graph_model.specs.Kinds.{outs_of}

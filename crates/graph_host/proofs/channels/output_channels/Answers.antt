@@ -1,4 +1,4 @@
-use Rattle.std.proofs.Common.{◌≡◌, ◌≤◌, ◌∙◌, sym, ap, Some, get_or, subst}
+use Rattle.std.proofs.Common.{◌≡◌, ◌≤◌, ◌∙◌, sym, ap, Some, get_or}
 use Rattle.std.specs.List.{position}
 use Rattle.graph_model.specs.Graphs.{is_output}
 use Rattle.graph_model.specs.Kinds.{ins_of}

@@ -1,4 +1,3 @@
-use Rattle.std.proofs.Common.{◌≡◌}
 use Rattle.std.specs.Prelude.{Result, Ok, Err, IfErr}
 use Rattle.graph_host.proofs.EndLaws.{refused}
 use Rattle.graph_host.proofs.graphs.graph_under.Goals as goal

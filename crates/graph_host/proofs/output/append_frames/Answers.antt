@@ -1,4 +1,4 @@
-use Rattle.std.proofs.Common.{◌≡◌, ℤ, List, subst}
+use Rattle.std.proofs.Common.{ℤ, List, subst}
 use Rattle.std.specs.Prelude.{OnErr}
 use Rattle.gh_outside.specs.Holdings.{HasGainedPrefix}
 use Rattle.wav_pcm.specs.Samples.{bytes_of}

@@ -1,4 +1,4 @@
-use Rattle.std.proofs.Common.{◌≡◌, ℕ, ℤ, List, length, ◌<◌, ◌*◌, ◌/◌, ◌%◌, ◌^◌, ◌++◌, subst, sym, ap, ◌∙◌, rules, arith}
+use Rattle.std.proofs.Common.{◌≡◌, ℤ, List, length, ◌<◌, ◌*◌, ◌/◌, ◌^◌, subst, sym, rules}
 use Rattle.graph_model.specs.Histories.{frames_of, interleaved}
 use Rattle.graph_model.specs.Answers.{answer}
 use Rattle.wav_pcm.specs.Heads.{head_of}

@@ -1,13 +1,12 @@
-use Rattle.std.proofs.Common.{◌≡◌, ◌≤◌, ◌*◌, ◌/◌, ◌%◌, ◌++◌, ℕ, List, [], length, replicate, subst, sym, ◌∙◌, ap, arith, inl, inr, rules}
-use Rattle.std.specs.Prelude.{OnOk, OnErr, ◌⊎◌}
+use Rattle.std.proofs.Common.{◌≡◌, ◌≤◌, ◌*◌, ◌/◌, ◌%◌, ◌++◌, [], length, replicate, subst, sym, ◌∙◌, ap, arith, inl, inr, rules}
+use Rattle.std.specs.Prelude.{OnOk}
 use Rattle.std.proofs.lemmas.List.{append_assoc, append-nil}
-use Rattle.gh_outside.specs.Causes.{Rose}
-use Rattle.gh_outside.specs.Holdings.{Holds, KeepsOthers, IsMissing}
+use Rattle.gh_outside.specs.Holdings.{Holds, KeepsOthers}
 use Rattle.wav_pcm.specs.Samples.{bytes_of}
 use Rattle.std.proofs.lemmas.Grind.{common_steps}
 use Rattle.graph_host.specs.Files.{file_of}
 use Rattle.graph_host.specs.declared.output.OutputFile.{OutputFile}
-use Rattle.graph_host.specs.Steps.{IsAppended, IsPartAppended, IsPart}
+use Rattle.graph_host.specs.Steps.{IsPart}
 use Rattle.graph_host.proofs.PartLaws.{keeps, appended, part-appended, part-of, whole, not_missing, rose_since, on_err, on_ok, either_part}
 use Rattle.graph_host.proofs.output.write_file.Goals as goal
 

@@ -1,6 +1,6 @@
-use Rattle.std.proofs.Common.{◌≡◌, ◌≤◌, ◌∙◌, sym, ap, subst, rules}
+use Rattle.std.proofs.Common.{◌≡◌, ◌≤◌, ◌∙◌, ap, subst}
 use Rattle.std.specs.Prelude.{Result, Ok, Err}
-use Rattle.gh_outside.specs.Holdings.{IsMissing, HeldBytes}
+use Rattle.gh_outside.specs.Holdings.{HeldBytes}
 use Rattle.wav_pcm.specs.Files.{ReadsAs}
 use Rattle.wav_pcm.specs.declared.head.Head.{Head}
 use Rattle.wav_pcm.specs.declared.head.HeadFault.{HeadFault}

@@ -1,4 +1,4 @@
-use Rattle.std.proofs.Common.{◌≡◌, Option, subst, ◌∙◌, rules}
+use Rattle.std.proofs.Common.{Option, subst, ◌∙◌}
 use Rattle.gh_outside.specs.Holdings.{Holding}
 use Rattle.wav_pcm.specs.declared.head.Head.{Head}
 use Rattle.graph_host.specs.Files.{file_of}
@@ -6,7 +6,7 @@ use Rattle.graph_host.specs.Forms.{IsFormOf}
 use Rattle.graph_host.specs.Recordings.{IsInput}
 use Rattle.graph_host.specs.Requests.{request_in}
 use Rattle.graph_host.specs.Steps.{IsPart}
-use Rattle.graph_host.proofs.EndLaws.{is_written, is_begun, is_ready}
+use Rattle.graph_host.proofs.EndLaws.{is_written, is_begun}
 use Rattle.graph_host.proofs.render.render.Goals as goal
 
 pub returns-in-Ok-write_file-clause-done : goal.returns-in-Ok-write_file-clause-done

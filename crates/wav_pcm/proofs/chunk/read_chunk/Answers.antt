@@ -1,4 +1,4 @@
-use Rattle.std.proofs.Common.{◌≡◌, refl}
+use Rattle.std.proofs.Common.{refl}
 use Rattle.wav_pcm.proofs.Told.{told_more}
 use Rattle.wav_pcm.proofs.ChunkLaws.{chunk_in}
 use Rattle.wav_pcm.proofs.chunk.read_chunk.Goals as goal

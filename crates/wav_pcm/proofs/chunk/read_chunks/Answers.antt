@@ -1,8 +1,8 @@
-use Rattle.std.proofs.Common.{◌≡◌, ◌≤◌, ◌<◌, ◌+◌, length, subst, refl, sym, ap, ◌∙◌, arith, min, rules}
+use Rattle.std.proofs.Common.{◌≡◌, subst, sym, arith, rules}
 use Rattle.gh_outside.specs.Holdings.{HeldBytes}
 use Rattle.wav_pcm.specs.Chunks.{chunk_at}
 use Rattle.wav_pcm.proofs.Told.{told_more, told_both}
-use Rattle.wav_pcm.proofs.ChunkLaws.{IsWalked, walked_more, walked_end, walked_data}
+use Rattle.wav_pcm.proofs.ChunkLaws.{walked_more, walked_end, walked_data}
 use Rattle.wav_pcm.proofs.chunk.read_chunks.Goals as goal
 
 pub returns-then-is_data-clause-found : goal.returns-then-is_data-clause-found

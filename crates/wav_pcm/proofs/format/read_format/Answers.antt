@@ -1,4 +1,4 @@
-use Rattle.std.proofs.Common.{◌≡◌, refl, arith, subst}
+use Rattle.std.proofs.Common.{◌≡◌, refl, subst}
 use Rattle.gh_outside.specs.Holdings.{HeldBytes}
 use Rattle.wav_pcm.specs.Formats.{extension_in}
 use Rattle.wav_pcm.proofs.Told.{told_more, told_both}

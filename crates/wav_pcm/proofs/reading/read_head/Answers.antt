@@ -1,5 +1,5 @@
-use Rattle.std.proofs.Common.{◌≡◌, ◌<◌, ◌∙◌, true, false, length, sym, ap, subst, arith}
-use Rattle.std.specs.Prelude.{Ok, Err}
+use Rattle.std.proofs.Common.{◌≡◌, ◌∙◌, true, false, length, subst, arith}
+use Rattle.std.specs.Prelude.{Ok}
 use Rattle.gh_outside.specs.Holdings.{HeldBytes}
 use Rattle.wav_pcm.specs.Files.{is_wave}
 use Rattle.wav_pcm.specs.declared.head.WavFault.TheVariants.{NotRiff}
@@ -21,8 +21,8 @@ returns-in_err-chunk-clause-fault g c fault e =
     let name = c.args.name.now in
     let held = g.F.Folder.held c.args.folder.now in
     let size = c.in_ok-size.size in
-    let first = c.in_ok-chunks.chunks.format in
-    let chunk = c.in_ok-chunks.chunks.data in
+    let first = c.in_ok-chunks.chunks.first_format in
+    let chunk = c.in_ok-chunks.chunks.first_data in
     let wave : HeldBytes name (g.F.Folder.held c.length.new.self) (λ bytes. size ≡ length bytes → true ≡ is_wave bytes) =
     subst (λ b. HeldBytes name (g.F.Folder.held c.length.new.self) (λ bytes. size ≡ length bytes → b ≡ is_wave bytes)) c.if-not-branch.false c.in_ok-read_is_wave.ensures.wave in
     let parts = told_parts name held (g.F.Folder.held c.length.new.self) (g.F.Folder.held c.read_is_wave.new.folder) size first chunk
@@ -35,8 +35,8 @@ returns-in_err-format-clause-fault g c fault e =
     let name = c.args.name.now in
     let held = g.F.Folder.held c.args.folder.now in
     let size = c.in_ok-size.size in
-    let first = c.in_ok-chunks.chunks.format in
-    let chunk = c.in_ok-chunks.chunks.data in
+    let first = c.in_ok-chunks.chunks.first_format in
+    let chunk = c.in_ok-chunks.chunks.first_data in
     let wave : HeldBytes name (g.F.Folder.held c.length.new.self) (λ bytes. size ≡ length bytes → true ≡ is_wave bytes) =
     subst (λ b. HeldBytes name (g.F.Folder.held c.length.new.self) (λ bytes. size ≡ length bytes → b ≡ is_wave bytes)) c.if-not-branch.false c.in_ok-read_is_wave.ensures.wave in
     let parts = told_parts name held (g.F.Folder.held c.length.new.self) (g.F.Folder.held c.read_is_wave.new.folder) size first chunk
@@ -51,8 +51,8 @@ returns-in_err-head_in-clause-fault g c fault e =
     let name = c.args.name.now in
     let held = g.F.Folder.held c.args.folder.now in
     let size = c.in_ok-size.size in
-    let first = c.in_ok-chunks.chunks.format in
-    let chunk = c.in_ok-chunks.chunks.data in
+    let first = c.in_ok-chunks.chunks.first_format in
+    let chunk = c.in_ok-chunks.chunks.first_data in
     let wave : HeldBytes name (g.F.Folder.held c.length.new.self) (λ bytes. size ≡ length bytes → true ≡ is_wave bytes) =
     subst (λ b. HeldBytes name (g.F.Folder.held c.length.new.self) (λ bytes. size ≡ length bytes → b ≡ is_wave bytes)) c.if-not-branch.false c.in_ok-read_is_wave.ensures.wave in
     let parts = told_parts name held (g.F.Folder.held c.length.new.self) (g.F.Folder.held c.read_is_wave.new.folder) size first chunk
@@ -68,8 +68,8 @@ returns-clause-ok g c =
     let name = c.args.name.now in
     let held = g.F.Folder.held c.args.folder.now in
     let size = c.in_ok-size.size in
-    let first = c.in_ok-chunks.chunks.format in
-    let chunk = c.in_ok-chunks.chunks.data in
+    let first = c.in_ok-chunks.chunks.first_format in
+    let chunk = c.in_ok-chunks.chunks.first_data in
     let wave : HeldBytes name (g.F.Folder.held c.length.new.self) (λ bytes. size ≡ length bytes → true ≡ is_wave bytes) =
     subst (λ b. HeldBytes name (g.F.Folder.held c.length.new.self) (λ bytes. size ≡ length bytes → b ≡ is_wave bytes)) c.if-not-branch.false c.in_ok-read_is_wave.ensures.wave in
     let parts = told_parts name held (g.F.Folder.held c.length.new.self) (g.F.Folder.held c.read_is_wave.new.folder) size first chunk
@@ -87,5 +87,5 @@ head_in-requires-clause-bits g c =
 pub returns-clause-head : goal.returns-clause-head
 returns-clause-head g c =
     let ok = checked_ok c.args.graph c.in_ok-read_format.field-0 c.in_ok-format.format c.in_ok-format.ensures in
-    head_ok c.args.graph c.in_ok-size.size c.in_ok-format.format c.in_ok-chunks.chunks.data c.in_ok-head_in.field-0 c.requires.least c.requires.most (omega arith) ok
+    head_ok c.args.graph c.in_ok-size.size c.in_ok-format.format c.in_ok-chunks.chunks.first_data c.in_ok-head_in.field-0 c.requires.least c.requires.most (omega arith) ok
     c.in_ok-chunks.ensures.within c.in_ok-head_in.ensures

@@ -1,4 +1,4 @@
-use Rattle.std.proofs.Common.{◌≡◌, ◌∙◌, arith}
+use Rattle.std.proofs.Common.{◌∙◌, arith}
 use Rattle.wav_pcm.proofs.Told.{told_more}
 use Rattle.wav_pcm.proofs.HeadLaws.{wave_start}
 use Rattle.wav_pcm.proofs.reading.read_is_wave.Goals as goal

@@ -21,7 +21,7 @@ invariant_of-self c =
     let first : IsFrameWithin k.bound.ins f = subst (λ (v : KernelState). IsFrameWithin v.bound.ins f) (sym c.self.view_is) c.requires.within in
     let moved : AreStepped s tails f new = subst (λ (ts : List Tail). AreStepped s ts f new) c.deref_mut.ensures.value c.step_each.ensures.tails in
     let back : take k.tails.len (new ++ drop (length new) tails) ≡ new
-        = take_at new (drop (length new) tails) k.tails.len (c.step_each.auto.tails ∙ c.deref_mut.ensures.len) in
+    = take_at new (drop (length new) tails) k.tails.len (c.step_each.auto.tails ∙ c.deref_mut.ensures.len) in
     rw back (biquad_kernel s k.bound tails c.self.invariant f first new moved)
 
 pub returns : goal.returns
@@ -35,11 +35,11 @@ returns c =
     let first : IsFrameWithin k.bound.ins f = subst (λ (v : KernelState). IsFrameWithin v.bound.ins f) (sym c.self.view_is) c.requires.within in
     let moved : AreStepped s tails f new = subst (λ (ts : List Tail). AreStepped s ts f new) c.deref_mut.ensures.value c.step_each.ensures.tails in
     let back : take k.tails.len (new ++ drop (length new) tails) ≡ new
-        = take_at new (drop (length new) tails) k.tails.len (c.step_each.auto.tails ∙ c.deref_mut.ensures.len) in
+    = take_at new (drop (length new) tails) k.tails.len (c.step_each.auto.tails ∙ c.deref_mut.ensures.len) in
     let same : length outs ≡ length tails
-        = c.step_each.auto.outs ∙ c.requires.outs ∙ sym (ap (λ (v : KernelState). outs_of v.kind) c.self.view_is) in
+    = c.step_each.auto.outs ∙ c.requires.outs ∙ sym (ap (λ (v : KernelState). outs_of v.kind) c.self.view_is) in
     let values = subst (λ (ts : List Tail). (d : ℕ) → d < length ts → get_or outs d (pos 0) ≡ next_out s (tail_at ts d) (get_or f d (pos 0)))
-        c.deref_mut.ensures.value c.step_each.ensures.values in
+    c.deref_mut.ensures.value c.step_each.ensures.values in
     let inside = biquad_frames s k.bound tails c.self.invariant f first new moved outs same values in
     let seen = subst (λ (v : KernelState). Frames v (biquad_state s k.bound new) f outs) c.self.view_is inside in
     let written = subst (λ (ts : List Tail). Frames c.args.self.now (biquad_state s k.bound ts) f outs) (sym back) seen in

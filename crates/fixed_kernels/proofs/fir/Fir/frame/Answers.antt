@@ -1,5 +1,4 @@
-use Rattle.std.proofs.Common.{◌≡◌, ℕ, ◌∷◌, ◌++◌, ◌<◌, ◌≤◌, ◌^◌, length, take, drop, get_or, List, ℤ, pos, sym, ap, ◌∙◌, subst}
-use Rattle.std.specs.Prelude.{unsigned_abs}
+use Rattle.std.proofs.Common.{◌≡◌, ℕ, ◌++◌, ◌<◌, length, take, drop, get_or, List, ℤ, pos, sym, ap, ◌∙◌, subst}
 use Rattle.std.proofs.lemmas.List.{take_at}
 use Rattle.circular_buffer.specs.Buffer.{Buffer}
 use Rattle.graph_model.specs.Filters.{filtered}
@@ -34,7 +33,7 @@ invariant_of-self c =
     let first : IsFrameWithin k.bound.ins f = subst (λ (v : KernelState). IsFrameWithin v.bound.ins f) (sym c.self.view_is) c.requires.within in
     let moved : ArePushed lines f new = subst (λ (ls : List (Buffer ℤ)). ArePushed ls f new) c.deref_mut.ensures.value c.filter_each.ensures.lines in
     let back : take k.lines.len (new ++ drop (length new) lines) ≡ new
-        = take_at new (drop (length new) lines) k.lines.len (c.filter_each.auto.lines ∙ c.deref_mut.ensures.len) in
+    = take_at new (drop (length new) lines) k.lines.len (c.filter_each.auto.lines ∙ c.deref_mut.ensures.len) in
     rw back (fir_kernel taps k.shift k.latency k.bound lines inv.0 inv.1 f first new moved, full_after (length taps) lines new f inv.1 moved)
 
 pub returns : goal.returns
@@ -49,14 +48,14 @@ returns c =
     let first : IsFrameWithin k.bound.ins f = subst (λ (v : KernelState). IsFrameWithin v.bound.ins f) (sym c.self.view_is) c.requires.within in
     let moved : ArePushed lines f new = subst (λ (ls : List (Buffer ℤ)). ArePushed ls f new) c.deref_mut.ensures.value c.filter_each.ensures.lines in
     let back : take k.lines.len (new ++ drop (length new) lines) ≡ new
-        = take_at new (drop (length new) lines) k.lines.len (c.filter_each.auto.lines ∙ c.deref_mut.ensures.len) in
+    = take_at new (drop (length new) lines) k.lines.len (c.filter_each.auto.lines ∙ c.deref_mut.ensures.len) in
     let same : length outs ≡ length lines
-        = c.filter_each.auto.outs ∙ c.requires.outs ∙ sym (ap (λ (v : KernelState). outs_of v.kind) c.self.view_is) in
+    = c.filter_each.auto.outs ∙ c.requires.outs ∙ sym (ap (λ (v : KernelState). outs_of v.kind) c.self.view_is) in
     let values = subst (λ (ls : List (Buffer ℤ)). (d : ℕ) → d < length ls
-        → get_or outs d (pos 0) ≡ filtered taps k.shift (pushed (get_or f d (pos 0)) (line_at ls d)).items) c.deref_mut.ensures.value
-        (subst (λ (ts : List ℤ). (d : ℕ) → d < length c.deref_mut.result.now
-        → get_or outs d (pos 0) ≡ filtered ts k.shift (pushed (get_or f d (pos 0)) (line_at c.deref_mut.result.now d)).items) c.as_slice.ensures
-        c.filter_each.ensures.values) in
+    → get_or outs d (pos 0) ≡ filtered taps k.shift (pushed (get_or f d (pos 0)) (line_at ls d)).items) c.deref_mut.ensures.value
+    (subst (λ (ts : List ℤ). (d : ℕ) → d < length c.deref_mut.result.now
+    → get_or outs d (pos 0) ≡ filtered ts k.shift (pushed (get_or f d (pos 0)) (line_at c.deref_mut.result.now d)).items) c.as_slice.ensures
+    c.filter_each.ensures.values) in
     let inside = fir_frames taps k.shift k.latency k.bound lines inv.0 inv.1 f first new moved outs same values in
     let seen = subst (λ (v : KernelState). Frames v (fir_state taps k.shift k.latency k.bound new) f outs) c.self.view_is inside in
     rw back (record { stands = seen.stands; last = seen.last; within = seen.within; kind = seen.kind; bound = seen.bound })

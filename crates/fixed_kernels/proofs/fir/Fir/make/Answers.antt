@@ -1,4 +1,4 @@
-use Rattle.std.proofs.Common.{◌≡◌, ℕ, [], length, refl, replicate, List, ℤ, pos, sym, ap, ◌∙◌, subst}
+use Rattle.std.proofs.Common.{◌≡◌, [], length, refl, replicate, List, ℤ, pos, sym, ap, ◌∙◌, subst}
 use Rattle.circular_buffer.specs.Buffer.{Buffer, buffer}
 use Rattle.graph_model.specs.Ranges.{HasRange}
 use Rattle.graph_model.specs.declared.kind.Kind.{Kind}
@@ -16,9 +16,9 @@ invariant_of-result c =
     let same : taps ≡ c.in-Fir.taps = c.in_ok-copy.ensures in
     let equal : bound ≡ c.args.bound.now = c.in_ok-copy_of.ensures in
     let kind : c.args.kind.now ≡ Fir c.in-Fir.channels taps c.in-Fir.shift c.in-Fir.latency
-        = c.in-Fir.is ∙ ap (λ (ts : List ℤ). Fir c.in-Fir.channels ts c.in-Fir.shift c.in-Fir.latency) (sym same) in
+    = c.in-Fir.is ∙ ap (λ (ts : List ℤ). Fir c.in-Fir.channels ts c.in-Fir.shift c.in-Fir.latency) (sym same) in
     let zeros : lines ≡ replicate c.in-Fir.channels (buffer (replicate (length taps) (pos 0)) (length taps))
-        = c.in_ok-lines.ensures ∙ ap (λ n. replicate c.in-Fir.channels (buffer (replicate n (pos 0)) n)) (c.len.ensures ∙ sym (ap length same)) in
+    = c.in_ok-lines.ensures ∙ ap (λ n. replicate c.in-Fir.channels (buffer (replicate n (pos 0)) n)) (c.len.ensures ∙ sym (ap length same)) in
     fir_new taps c.in-Fir.shift c.in-Fir.latency c.in-Fir.channels bound lines zeros
     (subst HasRange kind c.requires.range)
     (subst (λ (k : Kind). IsBoundOf k bound) kind (subst (IsBoundOf c.args.kind.now) (sym equal) c.requires.bound))
@@ -30,5 +30,5 @@ returns-clause-stands c =
     let lines : List (Buffer ℤ) = c.in_ok-lines.lines.items in
     let same : taps ≡ c.in-Fir.taps = c.in_ok-copy.ensures in
     let zeros : lines ≡ replicate c.in-Fir.channels (buffer (replicate (length taps) (pos 0)) (length taps))
-        = c.in_ok-lines.ensures ∙ ap (λ n. replicate c.in-Fir.channels (buffer (replicate n (pos 0)) n)) (c.len.ensures ∙ sym (ap length same)) in
+    = c.in_ok-lines.ensures ∙ ap (λ n. replicate c.in-Fir.channels (buffer (replicate n (pos 0)) n)) (c.len.ensures ∙ sym (ap length same)) in
     subst (λ (k : KernelState). Stands k []) (sym (fir_made taps c.in-Fir.shift c.in-Fir.latency c.in-Fir.channels bound lines zeros)) refl

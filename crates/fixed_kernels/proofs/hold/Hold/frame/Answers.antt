@@ -38,7 +38,7 @@ invariant_of-self c =
     let first : IsFrameWithin k.bound.ins f = subst (λ (v : KernelState). IsFrameWithin v.bound.ins f) (sym c.self.view_is) c.requires.within in
     let moved : ArePushed lines f new = subst (λ (ls : List (Buffer ℤ)). ArePushed ls f new) c.deref_mut.ensures.value c.pass_each.ensures.lines in
     let back : take k.lines.len (new ++ drop (length new) lines) ≡ new
-        = take_at new (drop (length new) lines) k.lines.len (c.pass_each.auto.lines ∙ c.deref_mut.ensures.len) in
+    = take_at new (drop (length new) lines) k.lines.len (c.pass_each.auto.lines ∙ c.deref_mut.ensures.len) in
     rw back (inv.0, hold_kernel k.kind k.bound lines inv.0 inv.1 inv.2 f first new moved, full_after _ lines new f inv.2 moved)
 
 pub returns : goal.returns
@@ -52,12 +52,12 @@ returns c =
     let first : IsFrameWithin k.bound.ins f = subst (λ (v : KernelState). IsFrameWithin v.bound.ins f) (sym c.self.view_is) c.requires.within in
     let moved : ArePushed lines f new = subst (λ (ls : List (Buffer ℤ)). ArePushed ls f new) c.deref_mut.ensures.value c.pass_each.ensures.lines in
     let back : take k.lines.len (new ++ drop (length new) lines) ≡ new
-        = take_at new (drop (length new) lines) k.lines.len (c.pass_each.auto.lines ∙ c.deref_mut.ensures.len) in
+    = take_at new (drop (length new) lines) k.lines.len (c.pass_each.auto.lines ∙ c.deref_mut.ensures.len) in
     let same : length outs ≡ ins_of k.kind
-        = c.pass_each.auto.outs ∙ c.requires.outs ∙ sym (ap (λ (v : KernelState). outs_of v.kind) c.self.view_is) ∙ hold_outs k.kind inv.0 in
+    = c.pass_each.auto.outs ∙ c.requires.outs ∙ sym (ap (λ (v : KernelState). outs_of v.kind) c.self.view_is) ∙ hold_outs k.kind inv.0 in
     let values = subst (λ (ls : List (Buffer ℤ)). (d : ℕ) → d < length ls
-        → get_or outs d (pos 0) ≡ ago (get_or f d (pos 0) ∷ (line_at ls d).items) (line_at ls d).capacity)
-        c.deref_mut.ensures.value c.pass_each.ensures.values in
+    → get_or outs d (pos 0) ≡ ago (get_or f d (pos 0) ∷ (line_at ls d).items) (line_at ls d).capacity)
+    c.deref_mut.ensures.value c.pass_each.ensures.values in
     let inside = hold_frames k.kind k.bound lines inv.0 inv.1 inv.2 f first new moved outs same values in
     let seen = subst (λ (v : KernelState). Frames v (hold_state k.kind k.bound new) f outs) c.self.view_is inside in
     rw back (record { stands = seen.stands; last = seen.last; within = seen.within; kind = seen.kind; bound = seen.bound })

@@ -1,5 +1,4 @@
-use Rattle.std.proofs.Common.{rules, arith, ◌≡◌, ℕ, ◌<◌, ◌≤◌, ◌^◌, length, get_or, List, ℤ, pos, sym, ap, ◌∙◌, subst}
-use Rattle.std.specs.Prelude.{unsigned_abs}
+use Rattle.std.proofs.Common.{arith, ◌≡◌, ℕ, ◌<◌, length, get_or, List, ℤ, pos, sym, ap, ◌∙◌, subst}
 use Rattle.graph_model.specs.Filters.{products, gains_to}
 use Rattle.graph_model.specs.Histories.{Frame}
 use Rattle.graph_model.specs.Kinds.{ins_of, outs_of}
@@ -30,9 +29,9 @@ returns c =
     let count : length f ≡ k.ins = c.requires.ins ∙ sym (ap (λ (v : KernelState). ins_of v.kind) c.self.view_is) in
     let same : length outs ≡ k.outs = c.mix.auto.outs ∙ c.requires.outs ∙ sym (ap (λ (v : KernelState). outs_of v.kind) c.self.view_is) in
     let values : (o : ℕ) → o < k.outs → get_or outs o (pos 0) ≡ rounded (products (gains_to k.ins gains o) f) 16
-        = λ o lt. subst (λ n. get_or outs o (pos 0) ≡ rounded (products (gains_to n gains o) f) 16) count
-          (subst (λ (gs : List ℤ). get_or outs o (pos 0) ≡ rounded (products (gains_to (length f) gs o) f) 16) c.as_slice.ensures
-          (c.mix.ensures o (omega (arith, c.mix.auto.outs, same)))) in
+    = λ o lt. subst (λ n. get_or outs o (pos 0) ≡ rounded (products (gains_to n gains o) f) 16) count
+    (subst (λ (gs : List ℤ). get_or outs o (pos 0) ≡ rounded (products (gains_to (length f) gs o) f) 16) c.as_slice.ensures
+    (c.mix.ensures o (omega (arith, c.mix.auto.outs, same)))) in
     let inside = mixer_frames k.ins k.outs gains k.bound c.self.invariant f first outs same values in
     let seen = subst (λ (v : KernelState). Frames v v f outs) c.self.view_is inside in
     record { stands = seen.stands; last = seen.last; within = seen.within; kind = seen.kind; bound = seen.bound }
