@@ -14,7 +14,7 @@ use Rattle.graph_host.specs.Readings.{IsWritten, IsBegun, MayBeReady}
 use Rattle.graph_host.specs.Requests.{Request}
 use Rattle.graph_model.specs.Sound.{IsSound}
 use Rattle.graph_host.specs.Files.{rendered}
-use Rattle.graph_host.specs.Forms.{IsFormOf}
+use Rattle.graph_host.specs.Forms.{written_frames, IsFormOf}
 use Rattle.graph_host.specs.Recordings.{IsInput}
 use Rattle.graph_host.specs.declared.forms.Form.{Form}
 use Rattle.graph_host.proofs.ChannelLaws.{ins_range}
@@ -66,7 +66,7 @@ module _ (q : Request) (g : Graph) (head : Head) (samples : List ℤ) (bytes : L
 -- the same of what is rendered
 module _ (q : Request) (g : Graph) (form : Form) (samples : List ℤ) (bytes : List ℕ) (old : Option Holding) (sound : IsSound g)
     (read : (h : Head) × IsFormOf q g h form × IsInput q.input g h form.silent samples old)
-    (few : form.frames * (form.channels * (form.bits / 8)) ≤ 4294967258) (made : bytes ≡ rendered g form samples) (graph : FindsGraph q.graph g old) where
+    (few : written_frames form * (form.channels * (form.bits / 8)) ≤ 4294967258) (made : bytes ≡ rendered g form samples) (graph : FindsGraph q.graph g old) where
   bytes_is : bytes ≡ output_of q g read.0 read.2.recorded
   bytes_is = made ∙ output_is q g read.0 form read.2.recorded samples (ins_range g sound).0 read.1 read.2.whole read.2.silent
 

@@ -1,5 +1,6 @@
 mod Numerals
 mod ChannelLaws
+mod LatencyLaws
 mod PartLaws
 mod OutputLaws
 mod EndLaws

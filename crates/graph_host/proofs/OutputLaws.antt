@@ -1,5 +1,5 @@
 -- How long the answer of a graph is, and the file that it makes.
-use Rattle.std.proofs.Common.{◌≡◌, ℕ, zero, suc, ℤ, pos, ◌+◌, ◌*◌, ◌/◌, ◌<◌, ◌≤◌, ◌^◌, ◌%◌, List, ◌++◌, length, replicate, sym, ap, ◌∙◌, arith, inl, inr}
+use Rattle.std.proofs.Common.{◌≡◌, ℕ, zero, suc, ℤ, pos, ◌+◌, ◌*◌, ◌/◌, ◌<◌, ◌≤◌, ◌^◌, ◌%◌, List, ◌++◌, ◌-◌, drop, length, replicate, sym, ap, ◌∙◌, arith, inl, inr}
 use Rattle.std.proofs.Math.Nat.{mul-mod_left, mul-le-mul_left, mul-le-mul_right, mul_assoc}
 use Rattle.graph_model.specs.Histories.{History, frames_of, interleaved, silence, history_of}
 use Rattle.graph_model.specs.Graphs.{output_name}
@@ -9,13 +9,13 @@ use Rattle.graph_model.specs.declared.graph.Graph.{Graph}
 use Rattle.graph_model.proofs.HistoryLaws.{length-history_of}
 use Rattle.graph_model.proofs.BlockLaws.{length-frames_of, frames_of-append, interleaved_are_frames}
 use Rattle.renderer.proofs.Interleaving.{wide-history_of, length-interleaved}
-use Rattle.std.proofs.lemmas.List.{get_or-replicate, length-replicate, replicate-append-replicate}
+use Rattle.std.proofs.lemmas.List.{get_or-replicate, length-drop, length-replicate, replicate-append-replicate}
 use Rattle.wav_pcm.specs.Heads.{head_of, wave_file_of}
 use Rattle.wav_pcm.specs.declared.head.Head.{Head}
 use Rattle.wav_pcm.specs.Samples.{bytes_of, IsSize}
-use Rattle.graph_host.specs.Outputs.{in_channels, out_channels, answered, data_bytes, output_of, silent_frames}
+use Rattle.graph_host.specs.Outputs.{in_channels, out_channels, answered, data_bytes, left_out, output_of, silent_frames}
 use Rattle.graph_host.specs.Files.{rendered}
-use Rattle.graph_host.specs.Forms.{IsForm, IsFormOf}
+use Rattle.graph_host.specs.Forms.{written_frames, IsForm, IsFormOf}
 use Rattle.graph_host.specs.Requests.{Request}
 use Rattle.graph_host.specs.declared.forms.Form.{Form}
 
@@ -40,33 +40,47 @@ some_bytes bits size = elim size [
 ]
 
 -- no more frames than bytes
-pub few_frames : (form : Form) → IsForm form → form.frames * (form.channels * (form.bits / 8)) ≤ 4294967258 → form.frames ≤ 4294967258
+pub few_frames : (form : Form) → IsForm form → written_frames form * (form.channels * (form.bits / 8)) ≤ 4294967258 → written_frames form ≤ 4294967258
 few_frames form good short =
     let one = some_bytes form.bits good.size in
     let each : 1 * (form.bits / 8) ≤ form.channels * (form.bits / 8) = mul-le-mul_right (form.bits / 8) good.channels_least in
-    let more : form.frames * 1 ≤ form.frames * (form.channels * (form.bits / 8)) = mul-le-mul_left form.frames (omega arith) in
+    let more : written_frames form * 1 ≤ written_frames form * (form.channels * (form.bits / 8)) = mul-le-mul_left (written_frames form) (omega arith) in
     omega arith
 
-pub few_samples : (g : Graph) (form : Form) (samples : List ℤ) → IsForm form → in_channels g ≤ 32 → form.frames * (form.channels * (form.bits / 8)) ≤ 4294967258
+pub few_samples : (g : Graph) (form : Form) (samples : List ℤ) → in_channels g ≤ 32 → form.frames ≤ 2 ^ 33
     → length samples ≡ form.frames * in_channels g → length samples < 2 ^ 40
-few_samples g form samples good most short whole =
-    let few = few_frames form good short in
+few_samples g form samples most few whole =
     let at_most : form.frames * in_channels g ≤ form.frames * 32 = mul-le-mul_left form.frames most in
     omega arith
 
--- the head, the frames and the pad of an answer are the rendered file
-pub file_is : (g : Graph) (form : Form) (samples made : List ℤ) (head : List ℕ) → 1 ≤ in_channels g → form.channels ≡ out_channels g
-    → length samples ≡ form.frames * in_channels g → made ≡ interleaved (answer g (frames_of (in_channels g) samples))
-    → head ≡ head_of form.channels form.rate form.bits (form.frames * (form.channels * (form.bits / 8)))
-    → head ++ bytes_of form.bits made ++ replicate (length made * (form.bits / 8) % 2) 0 ≡ rendered g form samples
-file_is g form samples made head some channels whole is said =
-    let answered = interleaved (answer g (frames_of (in_channels g) samples)) in
-    let count : length answered ≡ form.frames * form.channels =
+-- how many samples the answer has
+pub length-made : (g : Graph) (form : Form) (samples : List ℤ) → 1 ≤ in_channels g → form.channels ≡ out_channels g
+    → length samples ≡ form.frames * in_channels g → length (interleaved (answer g (frames_of (in_channels g) samples))) ≡ form.frames * form.channels
+length-made g form samples some channels whole =
     length-answer g (frames_of (in_channels g) samples)
     ∙ ap (λ n. n * out_channels g) (length-frames_of (in_channels g) form.frames samples (omega arith) whole)
-    ∙ ap (λ n. form.frames * n) (sym channels) in
-    let bytes : form.frames * (form.channels * (form.bits / 8)) ≡ length answered * (form.bits / 8) =
-    sym (mul_assoc form.frames form.channels (form.bits / 8)) ∙ ap (λ n. n * (form.bits / 8)) (sym count) in
+    ∙ ap (λ n. form.frames * n) (sym channels)
+
+-- and without those that are left out
+left : (a b n : ℕ) → b ≤ a → a * n - b * n ≡ (a - b) * n
+left a b n le = let d : a ≡ b + (a - b) = omega arith in let e : a * n ≡ (b + (a - b)) * n = ap (λ k. k * n) d in omega arith
+
+length-left : (form : Form) (xs : List ℤ) → form.skipped ≤ form.frames → length xs ≡ form.frames * form.channels
+    → length (drop (form.skipped * form.channels) xs) ≡ written_frames form * form.channels
+length-left form xs within long =
+    length-drop (form.skipped * form.channels) xs ∙ ap (λ n. n - form.skipped * form.channels) long ∙ left form.frames form.skipped form.channels within
+
+-- the head, the frames and the pad of an answer are the rendered file
+pub file_is : (g : Graph) (form : Form) (samples made : List ℤ) (head : List ℕ) → 1 ≤ in_channels g → form.channels ≡ out_channels g
+    → form.skipped ≤ form.frames → length samples ≡ form.frames * in_channels g
+    → made ≡ drop (form.skipped * form.channels) (interleaved (answer g (frames_of (in_channels g) samples)))
+    → head ≡ head_of form.channels form.rate form.bits (written_frames form * (form.channels * (form.bits / 8)))
+    → head ++ bytes_of form.bits made ++ replicate (length made * (form.bits / 8) % 2) 0 ≡ rendered g form samples
+file_is g form samples made head some channels within whole is said =
+    let answered = drop (form.skipped * form.channels) (interleaved (answer g (frames_of (in_channels g) samples))) in
+    let count : length answered ≡ written_frames form * form.channels = length-left form _ within (length-made g form samples some channels whole) in
+    let bytes : written_frames form * (form.channels * (form.bits / 8)) ≡ length answered * (form.bits / 8) =
+    sym (mul_assoc (written_frames form) form.channels (form.bits / 8)) ∙ ap (λ n. n * (form.bits / 8)) (sym count) in
     ap (λ h. h ++ bytes_of form.bits made ++ replicate (length made * (form.bits / 8) % 2) 0) said
     ∙ ap (λ n. head_of form.channels form.rate form.bits n ++ bytes_of form.bits made ++ replicate (length made * (form.bits / 8) % 2) 0) bytes
     ∙ ap (λ xs. head_of form.channels form.rate form.bits (length answered * (form.bits / 8)) ++ bytes_of form.bits xs ++ replicate (length xs * (form.bits / 8) % 2) 0) is
@@ -99,14 +113,16 @@ output_is q g head form recorded samples some of whole silent =
     ap (λ xs. interleaved (answer g (frames_of (in_channels g) xs))) silent
     ∙ ap (λ h. interleaved (answer g h)) (with_silence (in_channels g) head.frames form.silent recorded (omega arith) whole)
     ∙ ap (λ k. answered g k recorded) of.silent in
-    ap (λ xs. wave_file_of form.channels form.rate form.bits xs) answers
-    ∙ ap (λ n. wave_file_of n form.rate form.bits (answered g (silent_frames q g) recorded)) of.channels
-    ∙ ap (λ n. wave_file_of (out_channels g) n form.bits (answered g (silent_frames q g) recorded)) of.rate
-    ∙ ap (λ n. wave_file_of (out_channels g) head.rate n (answered g (silent_frames q g) recorded)) of.bits
+    ap (λ xs. wave_file_of form.channels form.rate form.bits (drop (form.skipped * form.channels) xs)) answers
+    ∙ ap (λ k. wave_file_of form.channels form.rate form.bits (drop (k * form.channels) (answered g (silent_frames q g) recorded))) of.skipped
+    ∙ ap (λ n. wave_file_of n form.rate form.bits (drop (left_out q g * n) (answered g (silent_frames q g) recorded))) of.channels
+    ∙ ap (λ n. wave_file_of (out_channels g) n form.bits (drop (left_out q g * out_channels g) (answered g (silent_frames q g) recorded))) of.rate
+    ∙ ap (λ n. wave_file_of (out_channels g) head.rate n (drop (left_out q g * out_channels g) (answered g (silent_frames q g) recorded))) of.bits
 
 -- and its bytes of frames are those of the form
-pub bytes_are : (q : Request) (g : Graph) (head : Head) (form : Form) → IsFormOf q g head form → form.frames * (form.channels * (form.bits / 8)) ≡ data_bytes q g head
+pub bytes_are : (q : Request) (g : Graph) (head : Head) (form : Form) → IsFormOf q g head form → written_frames form * (form.channels * (form.bits / 8)) ≡ data_bytes q g head
 bytes_are q g head form of =
-    ap (λ n. n * (form.channels * (form.bits / 8))) (of.frames ∙ ap (λ k. head.frames + k) of.silent)
-    ∙ ap (λ n. (head.frames + silent_frames q g) * (n * (form.bits / 8))) of.channels
-    ∙ ap (λ n. (head.frames + silent_frames q g) * (out_channels g * (n / 8))) of.bits
+    ap (λ n. (n - form.skipped) * (form.channels * (form.bits / 8))) (of.frames ∙ ap (λ k. head.frames + k) of.silent)
+    ∙ ap (λ k. (head.frames + silent_frames q g - k) * (form.channels * (form.bits / 8))) of.skipped
+    ∙ ap (λ n. (head.frames + silent_frames q g - left_out q g) * (n * (form.bits / 8))) of.channels
+    ∙ ap (λ n. (head.frames + silent_frames q g - left_out q g) * (out_channels g * (n / 8))) of.bits

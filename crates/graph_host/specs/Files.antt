@@ -1,5 +1,5 @@
 -- The output file as it is made and written.
-use Rattle.std.specs.Prelude.{◌≡◌, ◌*◌, ◌/◌, ◌%◌, ℕ, ℤ, List, ◌++◌, length, replicate}
+use Rattle.std.specs.Prelude.{◌≡◌, ◌*◌, ◌/◌, ◌%◌, ℕ, ℤ, List, ◌++◌, drop, length, replicate}
 use Rattle.graph_model.specs.Histories.{frames_of, interleaved}
 use Rattle.graph_model.specs.Answers.{answer}
 use Rattle.graph_model.specs.declared.graph.Graph.{Graph}
@@ -18,6 +18,7 @@ pub record HasRoom (o : OutputFile) : Type 0 where
   pub size : IsSize o.bits
   pub room : length o.bytes.items ≡ length o.samples * (o.bits / 8)
 
--- the graph's answer to these samples, in this form
+-- the graph's answer to these samples, in this form, but for the frames that are left out
 abbrev pub rendered : Graph → Form → List ℤ → List ℕ
-rendered g form samples = wave_file_of form.channels form.rate form.bits (interleaved (answer g (frames_of (in_channels g) samples)))
+rendered g form samples =
+    wave_file_of form.channels form.rate form.bits (drop (form.skipped * form.channels) (interleaved (answer g (frames_of (in_channels g) samples))))

@@ -1,9 +1,9 @@
 -- The form of an output file.
-use Rattle.std.specs.Prelude.{◌≡◌, ℕ, ◌+◌, ◌≤◌, Option, Some, None, ⊤}
+use Rattle.std.specs.Prelude.{◌≡◌, ℕ, ◌+◌, ◌-◌, ◌≤◌, Option, Some, None, ⊤}
 use Rattle.graph_model.specs.declared.graph.Graph.{Graph}
 use Rattle.wav_pcm.specs.Samples.{IsSize}
 use Rattle.wav_pcm.specs.declared.head.Head.{Head}
-use Rattle.graph_host.specs.Outputs.{out_channels, sample_size, silent_frames}
+use Rattle.graph_host.specs.Outputs.{left_out, out_channels, sample_size, silent_frames}
 use Rattle.graph_host.specs.Requests.{Request}
 use Rattle.graph_host.specs.declared.forms.Form.{Form}
 
@@ -11,6 +11,10 @@ use Rattle.graph_host.specs.declared.forms.Form.{Form}
 abbrev pub HasSize : Option ℕ → Type 0
 HasSize None = ⊤
 HasSize (Some bits) = IsSize bits
+
+-- how many frames are written
+abbrev pub written_frames : Form → ℕ
+written_frames f = f.frames - f.skipped
 
 -- a form in which frames can be written
 pub record IsForm (f : Form) : Type 0 where
@@ -27,3 +31,4 @@ pub record IsFormOf (q : Request) (g : Graph) (head : Head) (f : Form) : Type 0 
   pub bits : f.bits ≡ sample_size q head
   pub silent : f.silent ≡ silent_frames q g
   pub frames : f.frames ≡ head.frames + f.silent
+  pub skipped : f.skipped ≡ left_out q g

@@ -1,5 +1,5 @@
 -- The file that a graph makes of a recording.
-use Rattle.std.specs.Prelude.{ℕ, ℤ, List, ◌+◌, ◌*◌, ◌/◌, ◌++◌, Option, Some, None}
+use Rattle.std.specs.Prelude.{ℕ, ℤ, List, ◌+◌, ◌-◌, ◌*◌, ◌/◌, ◌++◌, drop, if◌then◌else◌, Option, Some, None}
 use Rattle.graph_model.specs.Histories.{frames_of, interleaved, silence}
 use Rattle.graph_model.specs.Graphs.{ins_at, outs_at, input_name, output_name}
 use Rattle.graph_model.specs.Paths.{latency_of_graph}
@@ -32,10 +32,15 @@ chosen (Some asked) bits = asked
 abbrev pub sample_size : Request → Head → ℕ
 sample_size q head = chosen q.bits head.bits
 
+-- how many of the answer's first frames are left out: as many as the graph's latency, where that is asked
+abbrev pub left_out : Request → Graph → ℕ
+left_out q g = if q.compensate then latency_of_graph g else 0
+
 -- the output file
 abbrev pub output_of : Request → Graph → Head → List ℤ → List ℕ
-output_of q g head samples = wave_file_of (out_channels g) head.rate (sample_size q head) (answered g (silent_frames q g) samples)
+output_of q g head samples =
+    wave_file_of (out_channels g) head.rate (sample_size q head) (drop (left_out q g * out_channels g) (answered g (silent_frames q g) samples))
 
--- the bytes of its frames: one frame for each that is read, and for each of silence
+-- the bytes of its frames: one frame for each that is read, and for each of silence, but for those that are left out
 abbrev pub data_bytes : Request → Graph → Head → ℕ
-data_bytes q g head = (head.frames + silent_frames q g) * (out_channels g * (sample_size q head / 8))
+data_bytes q g head = (head.frames + silent_frames q g - left_out q g) * (out_channels g * (sample_size q head / 8))

@@ -1,6 +1,6 @@
 //! How many channels come into a sound graph, how many its answer has, and its latency.
 
-ghost use Rattle.std.specs.Prelude.{◌≡◌, ◌<◌, ◌≤◌, length};
+ghost use Rattle.std.specs.Prelude.{◌≡◌, ◌<◌, ◌≤◌, ◌^◌, length};
 ghost use Rattle.std.specs.List.{position};
 ghost use Rattle.graph_model.specs.Graphs.{is_input as is_input_kind, is_output as is_output_kind};
 ghost use Rattle.graph_model.specs.Paths.{latency_of_graph};
@@ -67,7 +67,8 @@ pub(crate) fn output_channels(graph: &Checked) -> u32
 
 /// The latency of the graph, in frames.
 pub(crate) fn latency(graph: &Checked) -> u64
-    ensures { result ≡ latency_of_graph graph.now }
+    ensures latency { result ≡ latency_of_graph graph.now }
+    ensures small { result ≤ 2 ^ 26 }
 {
     let index = output_index(graph.graph()).unwrap();
     graph.reach(index as u32)

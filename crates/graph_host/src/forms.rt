@@ -2,7 +2,7 @@
 
 ghost use Rattle.std.specs.Prelude.{◌≡◌, ◌*◌, ◌/◌, ◌<◌, ◌≤◌, ◌^◌};
 ghost use Rattle.wav_pcm.specs.Files.{IsHead};
-ghost use Rattle.graph_host.specs.Forms.{HasSize, IsForm, IsFormOf};
+ghost use Rattle.graph_host.specs.Forms.{written_frames, HasSize, IsForm, IsFormOf};
 ghost use Rattle.graph_host.specs.Requests.{request_in};
 
 use crate::channels::{latency, output_channels};
@@ -21,19 +21,30 @@ pub(crate) struct Form {
     pub(crate) bits: u32,
     /// How many frames of silence come after the input.
     pub(crate) silent: u128,
-    /// How many frames there are, of the input and of silence.
+    /// How many frames are rendered, of the input and of silence.
     pub(crate) frames: u128,
+    /// How many of the first of them are left out.
+    pub(crate) skipped: u128,
 }
 
 impl Form {
-    /// The bytes of all frames.
+    /// How many frames are written.
+    pub(crate) fn written(&self) -> u128
+        requires { self.now.skipped ≤ self.now.frames }
+        ensures { result ≡ written_frames self.now }
+    {
+        self.frames - self.skipped
+    }
+
+    /// The bytes of the frames that are written.
     pub(crate) fn data_bytes(&self) -> u128
         requires channels { self.now.channels ≤ 32 }
         requires bits { self.now.bits ≤ 32 }
         requires frames { self.now.frames < 2 ^ 66 }
-        ensures { result ≡ self.now.frames * (self.now.channels * (self.now.bits / 8)) }
+        requires skipped { self.now.skipped ≤ self.now.frames }
+        ensures { result ≡ written_frames self.now * (self.now.channels * (self.now.bits / 8)) }
     {
-        self.frames * (self.channels * (self.bits / 8)) as u128
+        self.written() * (self.channels * (self.bits / 8)) as u128
     }
 }
 
@@ -44,13 +55,16 @@ pub(crate) fn output_form(graph: &Checked, request: &RenderRequest, head: &Head)
     ensures good { IsForm result }
     ensures form { IsFormOf (request_in request.now) graph.now head.now result }
     ensures few { result.frames < 2 ^ 66 }
+    ensures skipped { (result.skipped ≤ result.silent) × (result.skipped ≤ 2 ^ 26) }
 {
-    let silent = latency(graph) as u128 + request.tail as u128;
+    let latency = latency(graph) as u128;
+    let silent = latency + request.tail as u128;
     Form {
         channels: output_channels(graph),
         rate: head.rate,
         bits: request.bits.unwrap_or(head.bits),
         silent,
         frames: head.frames as u128 + silent,
+        skipped: if request.compensate { latency } else { 0 },
     }
 }

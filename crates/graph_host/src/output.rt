@@ -1,6 +1,6 @@
 //! The output file, made in memory and then written.
 
-ghost use Rattle.std.specs.Prelude.{◌≡◌, ◌*◌, ◌/◌, ◌%◌, ◌^◌, ◌≤◌, ◌⊎◌, IfOk, OnOk, OnErr, length, replicate, unsigned_abs};
+ghost use Rattle.std.specs.Prelude.{◌≡◌, ◌*◌, ◌/◌, ◌%◌, ◌^◌, ◌≤◌, ◌⊎◌, IfOk, OnOk, OnErr, drop, length, replicate, unsigned_abs};
 ghost use Rattle.std.specs.List.{All};
 ghost use Rattle.graph_model.specs.Sound.{IsSound};
 ghost use Rattle.gh_outside.specs.Causes.{Rose};
@@ -9,7 +9,7 @@ ghost use Rattle.renderer.specs.Built.{AreBuilt};
 ghost use Rattle.wav_pcm.specs.Samples.{bytes_of};
 ghost use Rattle.graph_host.specs.Outputs.{in_channels, out_channels};
 ghost use Rattle.graph_host.specs.Files.{file_of, rendered, HasRoom};
-ghost use Rattle.graph_host.specs.Forms.{IsForm};
+ghost use Rattle.graph_host.specs.Forms.{written_frames, IsForm};
 ghost use Rattle.graph_host.specs.Steps.{IsAppended, IsPart, IsPartAppended};
 
 use crate::forms::Form;
@@ -31,6 +31,17 @@ pub(crate) struct OutputFile {
     bytes: Vec<u8>,
 }
 
+/// The samples but for the first of them.
+fn without_first(alloc: Global, samples: List<i64>, count: usize) -> Result<List<i64>, AllocError>
+    requires { count ≤ length samples }
+    ensures { IfOk result (λ v. v ≡ drop count samples) }
+{
+    if count == 0 {
+        return Ok(samples);
+    }
+    List::from_slice(alloc, &samples.as_slice()[count..])
+}
+
 /// What a graph makes of a recording.
 pub(crate) fn rendered_file(
     alloc: Global,
@@ -41,21 +52,24 @@ pub(crate) fn rendered_file(
     requires built { AreBuilt graph.now }
     requires form { IsForm recording.now.form }
     requires channels { recording.now.form.channels ≡ out_channels graph.now }
-    requires short { recording.now.form.frames * (recording.now.form.channels * (recording.now.form.bits / 8)) ≤ 4294967258 }
+    requires short { written_frames recording.now.form * (recording.now.form.channels * (recording.now.form.bits / 8)) ≤ 4294967258 }
+    requires few { (recording.now.form.frames ≤ 2 ^ 33) × (recording.now.form.skipped ≤ recording.now.form.frames) }
     requires whole { length recording.now.samples.items ≡ recording.now.form.frames * in_channels graph.now }
     requires small { All (λ x. unsigned_abs x ≤ 2 ^ 31) recording.now.samples.items }
     ensures file { IfOk result (λ o. file_of o ≡ rendered graph.now recording.now.form recording.now.samples.items) }
     ensures room { IfOk result HasRoom }
 {
     let form = &recording.form;
-    let samples = answer(alloc, graph, recording.samples.as_slice())?;
+    let answer = answer(alloc, graph, recording.samples.as_slice())?;
+    let skipped = form.skipped as usize * form.channels as usize;
+    let samples = without_first(alloc, answer, skipped)?;
     let bytes = vec![in alloc; 0u8; samples.len() * (form.bits as usize / 8)]?;
     let mut head = [0; 44];
     head_bytes(
         form.channels,
         form.rate,
         form.bits,
-        form.frames as u64,
+        form.written() as u64,
         &mut head,
     );
     Ok(OutputFile {

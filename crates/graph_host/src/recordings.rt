@@ -6,7 +6,7 @@ ghost use Rattle.gh_outside.specs.Causes.{Rose};
 ghost use Rattle.gh_outside.specs.Holdings.{HeldBytes, IsPast};
 ghost use Rattle.wav_pcm.specs.Files.{data_size, recorded, IsHead};
 ghost use Rattle.graph_host.specs.Causes.{IsInputEnd, Stops};
-ghost use Rattle.graph_host.specs.Forms.{HasSize, IsForm, IsFormOf};
+ghost use Rattle.graph_host.specs.Forms.{written_frames, HasSize, IsForm, IsFormOf};
 ghost use Rattle.graph_host.specs.Outputs.{in_channels};
 ghost use Rattle.graph_host.specs.Recordings.{IsInput};
 ghost use Rattle.graph_host.specs.Requests.{request_in};
@@ -56,8 +56,8 @@ fn short_form(graph: &Checked, request: &RenderRequest, head: &Head) -> Result<F
     requires size { HasSize request.now.bits }
     ensures good { IfOk result IsForm }
     ensures ok { IfOk result (IsFormOf (request_in request.now) graph.now head.now) }
-    ensures short { IfOk result (λ f. f.frames * (f.channels * (f.bits / 8)) ≤ 4294967258) }
-    ensures few { IfOk result (λ f. f.frames ≤ 4294967258) }
+    ensures short { IfOk result (λ f. written_frames f * (f.channels * (f.bits / 8)) ≤ 4294967258) }
+    ensures few { IfOk result (λ f. (f.frames ≤ 2 ^ 33) × (f.skipped ≤ f.frames)) }
     ensures long { IfErr result (IsTooLong (request_in request.now) graph.now head.now) }
 {
     let form = output_form(graph, request, head);
@@ -97,7 +97,7 @@ fn samples_under<F: Folder>(
 
 /// The samples of silence, of so many frames and channels.
 fn silence(alloc: Global, frames: u128, channels: u32) -> Result<Vec<i64>, AllocError>
-    requires frames { frames ≤ 4294967258 }
+    requires frames { frames ≤ 2 ^ 33 }
     requires channels { channels ≤ 32 }
     ensures { IfOk result (λ v. v.items ≡ replicate (frames * channels) (pos 0)) }
 {
@@ -116,7 +116,8 @@ pub(crate) fn recording_under<F: Folder>(
     ensures good { IfOk result (λ r. IsForm r.form) }
     ensures form { IfOk result (λ r. (h : HeadValue) × IsFormOf (request_in request.now) graph.now h r.form
         × IsInput request.now.input.now graph.now h r.form.silent r.samples.items (F.held folder.old)) }
-    ensures short { IfOk result (λ r. r.form.frames * (r.form.channels * (r.form.bits / 8)) ≤ 4294967258) }
+    ensures short { IfOk result (λ r. written_frames r.form * (r.form.channels * (r.form.bits / 8)) ≤ 4294967258) }
+    ensures few { IfOk result (λ r. (r.form.frames ≤ 2 ^ 33) × (r.form.skipped ≤ r.form.frames)) }
     ensures whole { IfOk result (λ r. length r.samples.items ≡ r.form.frames * in_channels graph.now) }
     ensures small { IfOk result (λ r. All (λ x. unsigned_abs x ≤ 2 ^ 31) r.samples.items) }
     ensures stops { IfErr result (Stops (IsInputEnd (request_in request.now) graph.now (F.held folder.old)) (Rose (F.read_faults folder.old) (F.read_faults folder.new))) }

@@ -3,11 +3,11 @@
 ghost use Rattle.std.specs.Prelude.{◌≡◌, map, option_map, string_bytes};
 ghost use Rattle.std.specs.Option.{IfSome};
 ghost use Rattle.graph_host.specs.Forms.{HasSize};
-ghost use Rattle.graph_host.specs.Requests.{asked, bits_of, is_option, options_of, request_in, request_of, tail_of, taken};
+ghost use Rattle.graph_host.specs.Requests.{asked, bits_of, is_option, flagged, options_of, options_said, request_in, request_of, tail_of, taken};
 
 use crate::number::number;
 
-/// A request to render, by the words `render GRAPH IN OUT [--tail T] [--bits B]`.
+/// A request to render, by the words `render GRAPH IN OUT [--tail T] [--bits B] [--compensate]`.
 #[derive(Clone, Copy)]
 pub(crate) struct RenderRequest<'a> {
     /// The name of the graph's records.
@@ -20,6 +20,16 @@ pub(crate) struct RenderRequest<'a> {
     pub(crate) tail: u32,
     /// The size of the samples that are written, if it is not that of the input.
     pub(crate) bits: Option<u32>,
+    /// Whether as many of the first frames as the graph's latency are left out.
+    pub(crate) compensate: bool,
+}
+
+/// What the options say.
+#[derive(Clone, Copy)]
+struct Options {
+    tail: u32,
+    bits: Option<u32>,
+    compensate: bool,
 }
 
 /// Whether a word begins with a dash.
@@ -39,6 +49,16 @@ fn taken<'a>(option: &str, words: &'a [String]) -> (Option<&'a str>, &'a [String
     match words {
         [word, value, rest @ ..] if word.as_str() == option => (Some(value.as_str()), rest),
         _ => (None, words),
+    }
+}
+
+/// Whether the words begin with a flag, and the words after it.
+fn flagged<'a>(flag: &str, words: &'a [String]) -> (bool, &'a [String])
+    ensures { (result.0, map string_bytes result.1.now) ≡ flagged flag.now (map string_bytes words.now) }
+{
+    match words {
+        [word, rest @ ..] if word.as_str() == flag => (true, rest),
+        _ => (false, words),
     }
 }
 
@@ -67,17 +87,22 @@ fn bits(value: Option<&str>) -> Option<Option<u32>>
     }
 }
 
-/// The tail and the size of sample of these options, and nothing more.
-fn options_in(words: &[String]) -> Option<(u32, Option<u32>)>
-    ensures options { result ≡ options_of (map string_bytes words.now) }
-    ensures size { IfSome result (λ o. HasSize o.1) }
+/// What these words say, if they are options and nothing more.
+fn options_in(words: &[String]) -> Option<Options>
+    ensures options { option_map options_said result ≡ options_of (map string_bytes words.now) }
+    ensures size { IfSome result (λ o. HasSize o.bits) }
 {
     let (tail_text, words) = taken("--tail", words);
     let (bits_text, words) = taken("--bits", words);
+    let (compensate, words) = flagged("--compensate", words);
     if !words.is_empty() {
         return None;
     }
-    Some((tail(tail_text)?, bits(bits_text)?))
+    Some(Options {
+        tail: tail(tail_text)?,
+        bits: bits(bits_text)?,
+        compensate,
+    })
 }
 
 /// What the words ask for, if they are a request.
@@ -91,8 +116,8 @@ pub(crate) fn request(words: &[String]) -> Option<RenderRequest<'_>>
     if mode.as_str() != "render" {
         return None;
     }
-    let (tail, bits) = options_in(options)?;
-    names(graph.as_str(), input.as_str(), output.as_str(), tail, bits)
+    let options = options_in(options)?;
+    names(graph.as_str(), input.as_str(), output.as_str(), options)
 }
 
 /// A request of three names, none of them an option.
@@ -100,11 +125,10 @@ fn names<'a>(
     graph: &'a str,
     input: &'a str,
     output: &'a str,
-    tail: u32,
-    bits: Option<u32>,
+    options: Options,
 ) -> Option<RenderRequest<'a>>
-    ensures request { option_map request_in result ≡ asked graph.now input.now output.now (tail, bits) }
-    ensures size { IfSome result (λ r. r.bits ≡ bits) }
+    ensures request { option_map request_in result ≡ asked graph.now input.now output.now (options_said options) }
+    ensures size { IfSome result (λ r. r.bits ≡ options.bits) }
 {
     if is_option(graph) || is_option(input) || is_option(output) {
         return None;
@@ -113,7 +137,8 @@ fn names<'a>(
         graph,
         input,
         output,
-        tail,
-        bits,
+        tail: options.tail,
+        bits: options.bits,
+        compensate: options.compensate,
     })
 }

@@ -18,9 +18,10 @@ use gh_outside::{Folder, Sink};
 use std::alloc::Global;
 use std::thread::Threads;
 
-/// Does what the words ask for: `render GRAPH IN OUT [--tail T] [--bits B]` reads a graph in JSON and a WAV file from
-/// the folder, and writes the WAV file that the graph makes of it and of T frames of silence after it, with samples of
-/// B bits, or of as many as the input has. The words are those after the program's name. Nothing is reported yet.
+/// Does what the words ask for: `render GRAPH IN OUT [--tail T] [--bits B] [--compensate]` reads a graph in JSON and a
+/// WAV file from the folder, and writes the WAV file that the graph makes of it and of T frames of silence after it, with
+/// samples of B bits, or of as many as the input has; the frames of the graph's latency come first, or are left out. The
+/// words are those after the program's name. Nothing is reported yet.
 ///
 /// What is said of files holds where the folder tells what it holds; what is said of counts holds always.
 pub fn run<T: Threads + Sync, F: Folder, R: Sink>(

@@ -4,13 +4,17 @@ use Rattle.graph_model.specs.Graphs.{is_output}
 use Rattle.graph_model.specs.Paths.{reach}
 use Rattle.topology.proofs.OutputFacts.{output_named}
 use Rattle.graph_host.proofs.ChannelLaws.{output_there}
+use Rattle.graph_host.proofs.LatencyLaws.{few_frames_late}
 use Rattle.graph_host.proofs.channels.latency.Goals as goal
 
 pub unwrap-index-requires : goal.unwrap-index-requires
 unwrap-index-requires c = rw c.output_index.ensures (rw c.graph.ensures.same (output_there c.args.graph.now c.graph.ensures.sound))
 
-pub returns : goal.returns
-returns c =
+pub returns-clause-latency : goal.returns-clause-latency
+returns-clause-latency c =
     let at : position (λ n. is_output n.kind) c.args.graph.now.nodes ≡ Some c.unwrap-index.result =
     ap (λ h. position (λ n. is_output n.kind) h.nodes) (sym c.graph.ensures.same) ∙ sym c.output_index.ensures ∙ c.unwrap-index.ensures in
     c.reach.ensures ∙ ap (reach c.args.graph.now) (output_named c.args.graph.now c.graph.ensures.sound.shaped.ends.1 c.unwrap-index.result at)
+
+pub returns-clause-small : goal.returns-clause-small
+returns-clause-small c = rw (returns-clause-latency c) (few_frames_late c.args.graph.now c.graph.ensures.sound)

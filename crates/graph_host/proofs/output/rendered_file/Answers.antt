@@ -1,10 +1,12 @@
-use Rattle.std.proofs.Common.{◌≡◌, ℤ, List, length, ◌<◌, ◌*◌, ◌/◌, ◌^◌, subst, sym, rules}
+use Rattle.std.proofs.Common.{◌≡◌, ℤ, List, drop, length, ◌<◌, ◌≤◌, ◌*◌, ◌/◌, ◌%◌, ◌^◌, ◌++◌, subst, sym, ap, ◌∙◌, rules, arith}
 use Rattle.graph_model.specs.Histories.{frames_of, interleaved}
 use Rattle.graph_model.specs.Answers.{answer}
 use Rattle.wav_pcm.specs.Heads.{head_of}
+use Rattle.std.proofs.Math.Nat.{mul-le-mul_right}
+use Rattle.graph_host.specs.Forms.{written_frames}
 use Rattle.graph_host.specs.Outputs.{in_channels}
 use Rattle.graph_host.proofs.ChannelLaws.{ins_range}
-use Rattle.graph_host.proofs.OutputLaws.{whole_frames, few_frames, few_samples, file_is}
+use Rattle.graph_host.proofs.OutputLaws.{whole_frames, few_frames, few_samples, file_is, length-made}
 use Rattle.graph_host.proofs.output.rendered_file.Goals as goal
 
 pub answer-requires-clause-whole : goal.answer-requires-clause-whole
@@ -13,14 +15,25 @@ answer-requires-clause-whole c = rw c.as_slice.ensures.value (whole_frames c.arg
 pub answer-requires-clause-few : goal.answer-requires-clause-few
 answer-requires-clause-few c =
     subst (λ (xs : List ℤ). length xs < 2 ^ 40) (sym c.as_slice.ensures.value)
-    (few_samples c.args.graph.now c.args.recording.now.form c.args.recording.now.samples.items c.requires.form (ins_range c.args.graph.now c.requires.sound).1 c.requires.short c.requires.whole)
+    (few_samples c.args.graph.now c.args.recording.now.form c.args.recording.now.samples.items (ins_range c.args.graph.now c.requires.sound).1 c.requires.few.0 c.requires.whole)
+
+pub without_first-requires : goal.without_first-requires
+without_first-requires c =
+    let form = c.args.recording.now.form in
+    let made : c.in_ok-answer.answer ≡ interleaved (answer c.args.graph.now (frames_of (in_channels c.args.graph.now) c.args.recording.now.samples.items)) =
+        subst (λ (xs : List ℤ). c.in_ok-answer.answer ≡ interleaved (answer c.args.graph.now (frames_of (in_channels c.args.graph.now) xs))) c.as_slice.ensures.value c.in_ok-answer.ensures in
+    let long : length c.in_ok-answer.answer ≡ form.frames * form.channels =
+        ap length made ∙ length-made c.args.graph.now form c.args.recording.now.samples.items (ins_range c.args.graph.now c.requires.sound).0 c.requires.channels c.requires.whole in
+    subst (λ n. form.skipped * form.channels ≤ n) (sym long) (mul-le-mul_right form.channels c.requires.few.1)
 
 pub returns-clause-file : goal.returns-clause-file
 returns-clause-file c =
     let form = c.args.recording.now.form in
-    let made : c.in_ok-samples.samples ≡ interleaved (answer c.args.graph.now (frames_of (in_channels c.args.graph.now) c.args.recording.now.samples.items)) =
-    subst (λ (xs : List ℤ). c.in_ok-samples.samples ≡ interleaved (answer c.args.graph.now (frames_of (in_channels c.args.graph.now) xs))) c.as_slice.ensures.value c.in_ok-samples.ensures in
+    let cut = form.skipped * form.channels in
+    let made : c.in_ok-answer.answer ≡ interleaved (answer c.args.graph.now (frames_of (in_channels c.args.graph.now) c.args.recording.now.samples.items)) =
+        subst (λ (xs : List ℤ). c.in_ok-answer.answer ≡ interleaved (answer c.args.graph.now (frames_of (in_channels c.args.graph.now) xs))) c.as_slice.ensures.value c.in_ok-answer.ensures in
+    let rest : c.in_ok-samples.samples ≡ drop cut c.in_ok-answer.answer = search rules in
     let few = few_frames form c.requires.form c.requires.short in
-    let head : c.head_bytes.new.into ≡ head_of form.channels form.rate form.bits (form.frames * (form.channels * (form.bits / 8))) = search rules in
+    let head : c.head_bytes.new.into ≡ head_of form.channels form.rate form.bits (written_frames form * (form.channels * (form.bits / 8))) = search rules in
     file_is c.args.graph.now form c.args.recording.now.samples.items c.in_ok-samples.samples c.head_bytes.new.into
-    (ins_range c.args.graph.now c.requires.sound).0 c.requires.channels c.requires.whole made head
+    (ins_range c.args.graph.now c.requires.sound).0 c.requires.channels c.requires.few.1 c.requires.whole (rest ∙ ap (λ xs. drop cut xs) made) head
