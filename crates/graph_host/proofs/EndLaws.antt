@@ -21,7 +21,7 @@ use Rattle.graph_host.proofs.ChannelLaws.{ins_range}
 use Rattle.graph_host.proofs.OutputLaws.{output_is, bytes_are}
 use Rattle.graph_host.specs.Steps.{FindsRecords, FindsGraph, FindsHead, FindsRecording, IsHeadEnd, IsPart, IsTooLong, Refuses}
 use Rattle.graph_host.specs.declared.ends.End.{End}
-use Rattle.graph_host.specs.declared.ends.End.TheVariants.{Done, Words, SameName, Records, Graph as Checks, NotBuilt, Wav, ReadFault, WriteFault, Memory}
+use Rattle.graph_host.specs.declared.ends.End.TheVariants.{Done, Words, SameName, Records, Graph as Checks, Wav, ReadFault, WriteFault, Memory}
 
 -- ---- the steps
 
@@ -29,8 +29,6 @@ use Rattle.graph_host.specs.declared.ends.End.TheVariants.{Done, Words, SameName
 pub refused : (name : List ℕ) (g : Graph) (held : Option Holding) (reads : Type 0) (end : End) → FindsRecords name g held → Refuses g end → Stops (IsGraphEnd name held) reads end
 refused name g None reads (Checks fault) found r = inl tt
 refused name g (Some files) reads (Checks fault) found r = inl (g, found, r)
-refused name g None reads NotBuilt found r = inl tt
-refused name g (Some files) reads NotBuilt found r = inl (g, found, r.0, r.1)
 refused name g held reads Memory found r = inr (inr refl)
 refused name g held reads Done found r = absurd r
 refused name g held reads Words found r = absurd r
@@ -124,7 +122,6 @@ head_ends q g (Some files) reads Words (inl r) = absurd r
 head_ends q g (Some files) reads SameName (inl r) = absurd r
 head_ends q g (Some files) reads (Records fault) (inl r) = absurd r
 head_ends q g (Some files) reads (Checks fault) (inl r) = absurd r
-head_ends q g (Some files) reads NotBuilt (inl r) = absurd r
 head_ends q g (Some files) reads WriteFault (inl r) = absurd r
 head_ends q g (Some files) reads Memory (inl r) = absurd r
 

@@ -12,7 +12,6 @@ use Rattle.connections.proofs.FaultFacts.{stage, fails, all_checks}
 use Rattle.connections.proofs.FirstFaults.{first_fault_is_unique}
 use Rattle.connections.specs.declared.fault.GraphFault.{GraphFault}
 use Rattle.gh_outside.specs.Holdings.{Holding}
-use Rattle.renderer.specs.Built.{AreBuilt}
 use Rattle.wav_pcm.specs.Files.{ReadsAs}
 use Rattle.wav_pcm.proofs.HeadLaws.{reading_is_one}
 use Rattle.wav_pcm.specs.declared.head.Head.{Head}
@@ -22,7 +21,7 @@ use Rattle.graph_host.specs.Outputs.{data_bytes, in_channels}
 use Rattle.graph_host.specs.Readings.{HoldsRecords, HoldsGraph, IsReady, MayBeReady}
 use Rattle.graph_host.specs.Requests.{Request}
 use Rattle.graph_host.specs.declared.ends.End.{End}
-use Rattle.graph_host.specs.declared.ends.End.TheVariants.{Done, Words, SameName, Records, Graph as Checks, NotBuilt, Wav, ReadFault, WriteFault, Memory}
+use Rattle.graph_host.specs.declared.ends.End.TheVariants.{Done, Words, SameName, Records, Graph as Checks, Wav, ReadFault, WriteFault, Memory}
 
 some_none : {X : Type 0} {x : X} → None ≡ Some x → ⊥
 some_none e = cc
@@ -47,15 +46,13 @@ same_graph name g h files (a, at, text) (b, be, other) =
 
 -- how the checks of a graph end a run
 abbrev RefusedBy : Graph → End → Type 0
-RefusedBy g end = ((fault : GraphFault) × (end ≡ Checks fault) × IsFirstFault g fault) ⊎ ((end ≡ NotBuilt) × IsSound g × (AreBuilt g → ⊥))
+RefusedBy g end = (fault : GraphFault) × (end ≡ Checks fault) × IsFirstFault g fault
 
 -- of a name with records of a graph
 of_records : (name : List ℕ) (g : Graph) (files : Holding) → HoldsRecords name g files → (end : End) → IsGraphEnd name (Some files) end → RefusedBy g end
 of_records name g files (b, at, text) ReadFault none = absurd (some_none (sym none ∙ at))
 of_records name g files (b, at, text) (Records fault) (c, be, bad) = absurd (ok_err (sym text ∙ ap walk (some_same (sym at ∙ be)) ∙ bad))
-of_records name g files records (Checks fault) (h, holds, first) = inl (fault, refl, subst (λ x. IsFirstFault x fault) (same_graph name h g files holds records) first)
-of_records name g files records NotBuilt (h, holds, sound, other) =
-    let same = same_graph name h g files holds records in inr (refl, subst IsSound same sound, subst (λ x. AreBuilt x → ⊥) same other)
+of_records name g files records (Checks fault) (h, holds, first) = (fault, refl, subst (λ x. IsFirstFault x fault) (same_graph name h g files holds records) first)
 of_records name g files records Done r = absurd r
 of_records name g files records Words r = absurd r
 of_records name g files records SameName r = absurd r
@@ -68,7 +65,6 @@ of_fault : (name b : List ℕ) (fault : RecordFault) (files : Holding) → files
 of_fault name b fault files at bad ReadFault none = absurd (some_none (sym none ∙ at))
 of_fault name b fault files at bad (Records other) (c, be, worse) = ap Records (err_same (sym worse ∙ ap walk (some_same (sym be ∙ at)) ∙ bad))
 of_fault name b fault files at bad (Checks other) (h, (c, be, text), first) = absurd (ok_err (sym text ∙ ap walk (some_same (sym be ∙ at)) ∙ bad))
-of_fault name b fault files at bad NotBuilt (h, (c, be, text), sound, other) = absurd (ok_err (sym text ∙ ap walk (some_same (sym be ∙ at)) ∙ bad))
 of_fault name b fault files at bad Done r = absurd r
 of_fault name b fault files at bad Words r = absurd r
 of_fault name b fault files at bad SameName r = absurd r
@@ -81,7 +77,6 @@ of_none : (name : List ℕ) (files : Holding) → files name ≡ None → (end :
 of_none name files none ReadFault r = refl
 of_none name files none (Records fault) (c, be, bad) = absurd (some_none (sym none ∙ be))
 of_none name files none (Checks fault) (h, (c, be, text), first) = absurd (some_none (sym none ∙ be))
-of_none name files none NotBuilt (h, (c, be, text), sound, other) = absurd (some_none (sym none ∙ be))
 of_none name files none Done r = absurd r
 of_none name files none Words r = absurd r
 of_none name files none SameName r = absurd r
@@ -93,20 +88,12 @@ unsound : FaultsAreUnsound
 unsound g fault first sound = fails g fault first (all_checks g sound (stage fault))
 
 same_refusal : (g : Graph) (a b : End) → RefusedBy g a → RefusedBy g b → plain a ≡ plain b
-same_refusal g a b (inl (x, is, first)) (inl (y, be, other)) = ap plain is ∙ ap Checks (first_fault_is_unique g x y first other) ∙ sym (ap plain be)
-same_refusal g a b (inl (x, is, first)) (inr (be, sound, other)) = absurd (unsound g x first sound)
-same_refusal g a b (inr (is, sound, other)) (inl (y, be, first)) = absurd (unsound g y first sound)
-same_refusal g a b (inr (is, sound, unbuilt)) (inr (be, other, more)) = ap plain (is ∙ sym be)
-
-built_refused : (g : Graph) (a : End) → IsSound g → AreBuilt g → RefusedBy g a → ⊥
-built_refused g a sound built (inl (x, is, first)) = unsound g x first sound
-built_refused g a sound built (inr (is, other, unbuilt)) = unbuilt built
+same_refusal g a b (x, is, first) (y, be, other) = ap plain is ∙ ap Checks (first_fault_is_unique g x y first other) ∙ sym (ap plain be)
 
 graph_ends : (name : List ℕ) (files : Holding) (a b : End) → IsGraphEnd name (Some files) a → IsGraphEnd name (Some files) b → plain a ≡ plain b
 graph_ends name files ReadFault b none other = ap plain (sym (of_none name files none b other))
 graph_ends name files (Records fault) b (c, at, bad) other = ap plain (sym (of_fault name c fault files at bad b other))
-graph_ends name files (Checks fault) b (g, records, first) other = same_refusal g (Checks fault) b (inl (fault, refl, first)) (of_records name g files records b other)
-graph_ends name files NotBuilt b (g, records, sound, unbuilt) other = same_refusal g NotBuilt b (inr (refl, sound, unbuilt)) (of_records name g files records b other)
+graph_ends name files (Checks fault) b (g, records, first) other = same_refusal g (Checks fault) b (fault, refl, first) (of_records name g files records b other)
 graph_ends name files Done b r other = absurd r
 graph_ends name files Words b r other = absurd r
 graph_ends name files SameName b r other = absurd r
@@ -116,7 +103,7 @@ graph_ends name files Memory b r other = absurd r
 
 -- a graph that is read has no end of its own
 graph_is_read : (name : List ℕ) (g : Graph) (files : Holding) → HoldsGraph name g files → (a : End) → IsGraphEnd name (Some files) a → ⊥
-graph_is_read name g files holds a end = built_refused g a holds.sound holds.built (of_records name g files holds.records a end)
+graph_is_read name g files holds a end = let w = of_records name g files holds.records a end in unsound g w.0 w.2 holds.sound
 
 -- ---- the input
 one_answer : (n : ℕ) (bytes : List ℕ) (a b : Result Head WavFault) → ReadsAs n bytes a → ReadsAs n bytes b → a ≡ b
@@ -140,7 +127,6 @@ of_bytes q g bytes files at Words r = absurd r
 of_bytes q g bytes files at SameName r = absurd r
 of_bytes q g bytes files at (Records fault) r = absurd r
 of_bytes q g bytes files at (Checks fault) r = absurd r
-of_bytes q g bytes files at NotBuilt r = absurd r
 of_bytes q g bytes files at WriteFault r = absurd r
 of_bytes q g bytes files at Memory r = absurd r
 
@@ -152,7 +138,6 @@ of_nothing q g files none Words r = absurd r
 of_nothing q g files none SameName r = absurd r
 of_nothing q g files none (Records fault) r = absurd r
 of_nothing q g files none (Checks fault) r = absurd r
-of_nothing q g files none NotBuilt r = absurd r
 of_nothing q g files none WriteFault r = absurd r
 of_nothing q g files none Memory r = absurd r
 
@@ -165,7 +150,6 @@ input_ends q g files Words b r other = absurd r
 input_ends q g files SameName b r other = absurd r
 input_ends q g files (Records fault) b r other = absurd r
 input_ends q g files (Checks fault) b r other = absurd r
-input_ends q g files NotBuilt b r other = absurd r
 input_ends q g files WriteFault b r other = absurd r
 input_ends q g files Memory b r other = absurd r
 

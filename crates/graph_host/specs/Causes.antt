@@ -1,12 +1,10 @@
 -- Why a run ends as it does.
 use Rattle.std.specs.Prelude.{◌≡◌, ◌≢◌, ℕ, ◌^◌, ◌-◌, ◌<◌, min, List, Option, Some, None, Ok, Err, ◌⊎◌, ⊤}
-use Rattle.graph_model.specs.Sound.{IsSound}
 use Rattle.graph_model.specs.declared.graph.Graph.{Graph}
 use Rattle.graph_records.specs.Walk.{walk}
 use Rattle.connections.specs.Faults.{IsFirstFault}
 use Rattle.connections.specs.Laws.{without_walk}
 use Rattle.gh_outside.specs.Holdings.{Holding}
-use Rattle.renderer.specs.Built.{AreBuilt}
 use Rattle.wav_pcm.specs.Files.{ReadsAs}
 use Rattle.wav_pcm.specs.declared.head.Head.{Head}
 use Rattle.wav_pcm.specs.declared.head.WavFault.{WavFault}
@@ -15,23 +13,21 @@ use Rattle.graph_host.specs.Outputs.{data_bytes, in_channels}
 use Rattle.graph_host.specs.Readings.{HoldsRecords, HoldsGraph, MayBeReady}
 use Rattle.graph_host.specs.Requests.{Request}
 use Rattle.graph_host.specs.declared.ends.End.{End}
-use Rattle.graph_host.specs.declared.ends.End.TheVariants.{Done, SameName, Records, Graph as Checks, NotBuilt, Wav, ReadFault, WriteFault, Memory}
+use Rattle.graph_host.specs.declared.ends.End.TheVariants.{Done, SameName, Records, Graph as Checks, Wav, ReadFault, WriteFault, Memory}
 
 -- where the folder does not tell what it holds, what was read of it may have been refused for any fault
 abbrev pub IsRefusal : End → Type 0
 IsRefusal (Records fault) = ⊤
 IsRefusal (Checks fault) = ⊤
-IsRefusal NotBuilt = ⊤
 IsRefusal (Wav fault) = ⊤
 IsRefusal end = ⊥
 
--- the graph ends it so: the name is not held, or its bytes are no records, or the first check that fails, or a kind that is not built
+-- the graph ends it so: the name is not held, or its bytes are no records, or the first check that fails
 abbrev pub IsGraphEnd : List ℕ → Option Holding → End → Type 0
 IsGraphEnd name None end = IsRefusal end
 IsGraphEnd name (Some files) ReadFault = files name ≡ None
 IsGraphEnd name (Some files) (Records fault) = (bytes : List ℕ) × (files name ≡ Some bytes) × (walk bytes ≡ Err fault)
 IsGraphEnd name (Some files) (Checks fault) = (g : Graph) × HoldsRecords name g files × IsFirstFault g fault
-IsGraphEnd name (Some files) NotBuilt = (g : Graph) × HoldsRecords name g files × IsSound g × ¬ AreBuilt g
 IsGraphEnd name (Some files) end = ⊥
 
 -- the file has this fault for the graph, or its output would have so many bytes of frames, which are kept in 64 bits

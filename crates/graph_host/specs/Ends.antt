@@ -1,7 +1,7 @@
 -- The status of each end.
 use Rattle.std.specs.Prelude.{ℕ}
 use Rattle.graph_host.specs.declared.ends.End.{End}
-use Rattle.graph_host.specs.declared.ends.End.TheVariants.{Done, Words, SameName, Records, Graph, NotBuilt, Wav, ReadFault, WriteFault, Memory}
+use Rattle.graph_host.specs.declared.ends.End.TheVariants.{Done, Words, SameName, Records, Graph, Wav, ReadFault, WriteFault, Memory}
 
 abbrev pub status_of : End → ℕ
 status_of Done = 0
@@ -13,4 +13,3 @@ status_of (Wav fault) = 4
 status_of ReadFault = 5
 status_of WriteFault = 6
 status_of Memory = 8
-status_of NotBuilt = 10

@@ -4,7 +4,6 @@ use Rattle.graph_model.specs.Sound.{IsSound}
 use Rattle.graph_model.specs.declared.graph.Graph.{Graph}
 use Rattle.graph_records.specs.Walk.{walk}
 use Rattle.gh_outside.specs.Holdings.{Holding}
-use Rattle.renderer.specs.Built.{AreBuilt}
 use Rattle.wav_pcm.specs.Files.{ReadsAs, recorded}
 use Rattle.wav_pcm.specs.declared.head.Head.{Head}
 use Rattle.graph_host.specs.Outputs.{data_bytes, in_channels, output_of}
@@ -14,11 +13,10 @@ use Rattle.graph_host.specs.Requests.{Request}
 abbrev pub HoldsRecords : List ℕ → Graph → Holding → Type 0
 HoldsRecords name g files = (bytes : List ℕ) × (files name ≡ Some bytes) × (walk bytes ≡ Ok g)
 
--- the graph is sound, and all its kinds are built
+-- the name holds the records of this sound graph
 pub record HoldsGraph (name : List ℕ) (g : Graph) (files : Holding) : Type 0 where
   pub records : HoldsRecords name g files
   pub sound : IsSound g
-  pub built : AreBuilt g
 
 -- the name holds a WAV file with this head for the graph, and these are the samples of its frames
 pub record HoldsRecording (name : List ℕ) (g : Graph) (head : Head) (samples : List ℤ) (files : Holding) : Type 0 where

@@ -1,9 +1,7 @@
 -- What the steps of a run find under a name, where the folder tells.
 use Rattle.std.specs.Prelude.{◌≡◌, ℕ, ℤ, ◌-◌, ◌^◌, ◌<◌, min, List, ◌++◌, take, Option, Some, None, Ok, Err, ◌⊎◌, ⊤}
 use Rattle.graph_model.specs.declared.graph.Graph.{Graph}
-use Rattle.graph_model.specs.Sound.{IsSound}
 use Rattle.connections.specs.Faults.{IsFirstFault}
-use Rattle.renderer.specs.Built.{AreBuilt}
 use Rattle.gh_outside.specs.Holdings.{Holding, Holds}
 use Rattle.wav_pcm.specs.Files.{ReadsAs}
 use Rattle.wav_pcm.specs.declared.head.Head.{Head}
@@ -12,7 +10,7 @@ use Rattle.graph_host.specs.Causes.{IsRefusal}
 use Rattle.graph_host.specs.Outputs.{data_bytes, in_channels}
 use Rattle.graph_host.specs.Requests.{Request}
 use Rattle.graph_host.specs.declared.ends.End.{End}
-use Rattle.graph_host.specs.declared.ends.End.TheVariants.{Graph as Checks, NotBuilt, Wav, ReadFault, Memory}
+use Rattle.graph_host.specs.declared.ends.End.TheVariants.{Graph as Checks, Wav, ReadFault, Memory}
 use Rattle.graph_host.specs.Readings.{HoldsRecords, HoldsGraph, HoldsRecording}
 
 -- the name holds the records of this graph
@@ -23,11 +21,10 @@ FindsRecords name g (Some files) = HoldsRecords name g files
 -- the checks of a graph end it so
 abbrev pub Refuses : Graph → End → Type 0
 Refuses g (Checks fault) = IsFirstFault g fault
-Refuses g NotBuilt = IsSound g × ¬ AreBuilt g
 Refuses g Memory = ⊤
 Refuses g end = ⊥
 
--- the same of a sound graph whose kinds are built
+-- the same of a sound graph
 abbrev pub FindsGraph : List ℕ → Graph → Option Holding → Type 0
 FindsGraph name g None = ⊤
 FindsGraph name g (Some files) = HoldsGraph name g files

@@ -25,9 +25,6 @@ pub enum End {
     /// The graph is not sound: its first check that fails. Nothing was written.
     #[error("graph: {0}")]
     Graph(GraphFault),
-    /// The graph is sound and has a kind that can't be rendered today. Nothing was written.
-    #[error("not built yet")]
-    NotBuilt,
     /// The input is no WAV file for the graph, or its output would be too long. Nothing was written.
     #[error("wav: {0}")]
     Wav(WavFault),

@@ -3,7 +3,6 @@
 ghost use Rattle.std.specs.Prelude.{◌≡◌, ◌≤◌, IfOk, IfErr};
 ghost use Rattle.graph_model.specs.Sound.{Fits, IsSound};
 ghost use Rattle.gh_outside.specs.Causes.{Rose};
-ghost use Rattle.renderer.specs.Built.{AreBuilt};
 ghost use Rattle.graph_host.specs.Causes.{IsGraphEnd, Stops};
 ghost use Rattle.graph_host.specs.Steps.{FindsGraph, FindsRecords, Refuses};
 
@@ -13,7 +12,6 @@ use connections::{Checked, check};
 use gh_outside::Folder;
 use graph_model::{Graph, Refused};
 use graph_records::read_graph;
-use renderer::is_built;
 use std::alloc::Global;
 
 /// The graph that a name holds the records of.
@@ -37,21 +35,20 @@ fn records_under<F: Folder>(alloc: Global, folder: &mut F, name: &str) -> Result
     }
 }
 
-/// A sound graph whose kinds are built, or the end that it has.
+/// The graph, if it is sound, or the end that it has.
 fn checked(alloc: Global, graph: Graph) -> Result<Checked, End>
     requires { Fits graph }
-    ensures ok { IfOk result (λ g. (g ≡ graph) × IsSound g × AreBuilt g) }
+    ensures ok { IfOk result (λ g. (g ≡ graph) × IsSound g) }
     ensures stops { IfErr result (Refuses graph) }
 {
     match check(alloc, graph) {
-        Ok(graph) if is_built(graph.graph()) => Ok(graph),
-        Ok(_) => Err(End::NotBuilt),
+        Ok(graph) => Ok(graph),
         Err(Refused::Fault(fault)) => Err(End::Graph(fault)),
         Err(Refused::Memory) => Err(End::Memory),
     }
 }
 
-/// The sound graph under a name, whose kinds are built.
+/// The sound graph under a name.
 pub(crate) fn graph_under<F: Folder>(
     alloc: Global,
     folder: &mut F,
@@ -60,7 +57,6 @@ pub(crate) fn graph_under<F: Folder>(
     ensures held { F.held folder.new ≡ F.held folder.old }
     ensures ok { IfOk result (λ g. FindsGraph name.now g (F.held folder.old)) }
     ensures sound { IfOk result IsSound }
-    ensures built { IfOk result AreBuilt }
     ensures stops { IfErr result (Stops (IsGraphEnd name.now (F.held folder.old)) (Rose (F.read_faults folder.old) (F.read_faults folder.new))) }
     ensures reads { F.read_faults folder.old ≤ F.read_faults folder.new }
     ensures writes { F.write_faults folder.new ≡ F.write_faults folder.old }

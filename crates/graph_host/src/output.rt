@@ -5,7 +5,6 @@ ghost use Rattle.std.specs.List.{All};
 ghost use Rattle.graph_model.specs.Sound.{IsSound};
 ghost use Rattle.gh_outside.specs.Causes.{Rose};
 ghost use Rattle.gh_outside.specs.Holdings.{Holds, IsMissing, KeepsOthers};
-ghost use Rattle.renderer.specs.Built.{AreBuilt};
 ghost use Rattle.wav_pcm.specs.Samples.{bytes_of};
 ghost use Rattle.graph_host.specs.Outputs.{in_channels, out_channels};
 ghost use Rattle.graph_host.specs.Files.{file_of, rendered, HasRoom};
@@ -49,7 +48,6 @@ pub(crate) fn rendered_file(
     recording: &Recording,
 ) -> Result<OutputFile, AllocError>
     requires sound { IsSound graph.now }
-    requires built { AreBuilt graph.now }
     requires form { IsForm recording.now.form }
     requires channels { recording.now.form.channels ≡ out_channels graph.now }
     requires short { written_frames recording.now.form * (recording.now.form.channels * (recording.now.form.bits / 8)) ≤ 4294967258 }

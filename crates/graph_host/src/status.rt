@@ -18,7 +18,6 @@ pub(crate) fn ended(end: End) -> Run
         End::ReadFault => 5,
         End::WriteFault => 6,
         End::Memory => 8,
-        End::NotBuilt => 10,
     };
     Run { status, end }
 }

@@ -57,6 +57,19 @@ const IN_16_BITS: &[u8] =
 const WITH_TAIL: &[u8] =
     b"RIFF\x2E\0\0\0WAVEfmt \x10\0\0\0\x01\0\x01\0\x80\xBB\0\0\0\x77\x01\0\x02\0\x10\0data\x0A\0\0\0\x64\0\x38\xFF\x2C\x01\0\0\0\0";
 
+/// An insert of 5 samples beside a straight connection, a sample of 1000, and its answer; without the latency 2000 alone.
+const INSERT: &[u8] =
+    b"{\"FILTERGRAPH\":{\"FILTER\":[{\"uid\":1,\"kind\":\"input\",\"channels\":1},{\"uid\":2,\"kind\":\"output\",\"channels\":1},{\"uid\":3,\"kind\":\"insert\",\"channels\":1,\"samples\":5}],\"CONNECTION\":[{\"srcFilter\":1,\"srcChannel\":0,\"dstFilter\":3,\"dstChannel\":0},{\"srcFilter\":3,\"srcChannel\":0,\"dstFilter\":2,\"dstChannel\":0},{\"srcFilter\":1,\"srcChannel\":0,\"dstFilter\":2,\"dstChannel\":0}]}}";
+
+const ONE_SAMPLE: &[u8] =
+    b"RIFF\x26\0\0\0WAVEfmt \x10\0\0\0\x01\0\x01\0\x80\xBB\0\0\0\x77\x01\0\x02\0\x10\0data\x02\0\0\0\xE8\x03";
+
+const ALIGNED: &[u8] =
+    b"RIFF\x30\0\0\0WAVEfmt \x10\0\0\0\x01\0\x01\0\x80\xBB\0\0\0\x77\x01\0\x02\0\x10\0data\x0C\0\0\0\0\0\0\0\0\0\0\0\0\0\xD0\x07";
+
+const COMPENSATED: &[u8] =
+    b"RIFF\x26\0\0\0WAVEfmt \x10\0\0\0\x01\0\x01\0\x80\xBB\0\0\0\x77\x01\0\x02\0\x10\0data\x02\0\0\0\xD0\x07";
+
 /// A folder with a graph and a file, and with room for an output, in which these calls fail.
 fn folder(
     alloc: Global,
@@ -98,6 +111,8 @@ const RENDER: &str = "render g.json in.wav out.wav";
 
 const TAIL: &str = "render g.json in.wav out.wav --tail 2";
 
+const COMPENSATE: &str = "render g.json in.wav out.wav --compensate";
+
 const BITS: &str = "render g.json in.wav out.wav --bits 16";
 
 #[test]
@@ -110,6 +125,8 @@ fn examples_in_their_bytes(rt: HostRuntime) -> Result<(), Fail> {
         (RENDER, SUM, TWO_CHANNELS, SUMMED),
         (BITS, STRAIGHT, OF_24_BITS, IN_16_BITS),
         (TAIL, STRAIGHT, THREE_FRAMES, WITH_TAIL),
+        (RENDER, INSERT, ONE_SAMPLE, ALIGNED),
+        (COMPENSATE, INSERT, ONE_SAMPLE, COMPENSATED),
     ];
     for (line, graph, input, output) in cases {
         let mut folder = folder(rt.alloc(), graph, input, &[])?;
@@ -184,10 +201,6 @@ fn a_room_too_small_for_the_frames(rt: HostRuntime) -> Result<(), Fail> {
     Ok(())
 }
 
-/// An insert, which is sound and not built yet.
-const INSERT: &[u8] =
-    b"{\"FILTERGRAPH\":{\"FILTER\":[{\"uid\":1,\"kind\":\"input\",\"channels\":1},{\"uid\":2,\"kind\":\"output\",\"channels\":1},{\"uid\":3,\"kind\":\"insert\",\"channels\":1,\"samples\":5}]}}";
-
 /// A node that no connection can reach.
 const NO_NODE: &[u8] =
     b"{\"FILTERGRAPH\":{\"FILTER\":[{\"uid\":1,\"kind\":\"input\",\"channels\":1},{\"uid\":2,\"kind\":\"output\",\"channels\":1}],\"CONNECTION\":[{\"srcFilter\":1,\"srcChannel\":0,\"dstFilter\":9,\"dstChannel\":0}]}}";
@@ -195,7 +208,7 @@ const NO_NODE: &[u8] =
 #[test]
 fn refusals_leave_everything(rt: HostRuntime) -> Result<(), Fail> {
     let words = "the words are no request";
-    let cases: [(&str, &[u8], &[u8], u8, &str); 13] = [
+    let cases: [(&str, &[u8], &[u8], u8, &str); 12] = [
         ("render", STRAIGHT, THREE_FRAMES, 2, words),
         ("render -g in.wav out.wav", STRAIGHT, THREE_FRAMES, 2, words),
         (
@@ -241,7 +254,6 @@ fn refusals_leave_everything(rt: HostRuntime) -> Result<(), Fail> {
             3,
             "graph: connection 0: no node 9",
         ),
-        (RENDER, INSERT, THREE_FRAMES, 10, "not built yet"),
         (RENDER, STRAIGHT, b"RIFF", 4, "wav: not a WAVE file"),
         (
             RENDER,
