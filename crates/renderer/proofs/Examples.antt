@@ -1,8 +1,6 @@
 -- The definitions at small streams, by computation.
 use Rattle.std.proofs.Common.{◌≡◌, ℕ, zero, suc, ◌<◌, List, [], ◌∷◌, ℤ, pos, ◌+ℤ◌, refl, arith}
 use Rattle.std.proofs.lemmas.Int.{ints}
-use Rattle.graph_model.specs.declared.kind.Kind.TheVariants.{Gain, Insert}
-use Rattle.renderer.specs.Built.{IsBuilt}
 use Rattle.renderer.specs.Routes.{IsAdded, sample_in, sample_before}
 use Rattle.renderer.specs.declared.routes.Channel.{Channel}
 use Rattle.renderer.specs.declared.routes.Route.{Route}
@@ -39,9 +37,3 @@ not_in_time a = let e : pos 24 ≡ pos 22 = a.added 1 (omega arith) in absurd (o
 -- what was there is kept
 not_in_its_place : IsAdded 2 into_mono stereo (pos 10 ∷ pos 20 ∷ []) (pos 10 ∷ pos 2 ∷ []) → ⊥
 not_in_its_place a = let e : pos 2 ≡ pos 22 = a.added 1 (omega arith) in absurd (omega (arith, ints))
-
-a_gain_is_built : IsBuilt (Gain 1 (pos 32768))
-a_gain_is_built = tt
-
-an_insert_is_not : IsBuilt (Insert 1 5) → ⊥
-an_insert_is_not b = b

@@ -8,25 +8,27 @@ use Rattle.graph_model.specs.Histories.{frames_of, interleaved}
 use Rattle.graph_model.specs.Kinds.{ins_of, stream_of}
 use Rattle.graph_model.specs.Graphs.{is_input, ins_at}
 use Rattle.graph_model.specs.Paths.{reach}
+use Rattle.graph_model.specs.Bounds.{bounds, IsWithin}
 use Rattle.graph_model.specs.Ranges.{HasRange}
 use Rattle.graph_model.specs.Answers.{given_by, incoming, outgoing, sum_into}
 use Rattle.graph_model.proofs.BlockLaws.{interleaved_are_frames}
 use Rattle.graph_model.specs.declared.kind.Kind.{Kind}
 use Rattle.graph_model.specs.declared.kind.Kind.TheVariants.{Input, Output, Gain, Mixer, Fir, Biquad, Limiter, Delay, Insert}
 use Rattle.graph_model.specs.declared.graph.Node.{Node}
+use Rattle.graph_model.specs.declared.graph.Bound.{Bound}
+use Rattle.fixed_kernels.specs.Kernels.{IsBoundOf}
+use Rattle.processors.specs.Types.{IsBetweenEnds}
 use Rattle.topology.specs.Named.{uid_at}
 use Rattle.topology.proofs.NameFacts.{any_node}
-use Rattle.renderer.specs.Built.{IsBuilt, IsProcessor}
-use Rattle.renderer.specs.Samples.{AreUpTo}
 use Rattle.renderer.specs.Evaluations.{IsEvaluation, input_of, incoming_at, outgoing_at}
 use Rattle.renderer.specs.declared.evaluation.Evaluation.{Evaluation}
 use Rattle.renderer.proofs.Interleaving.{AreWide, wide-history_of, length-interleaved}
 use Rattle.renderer.proofs.NodeFacts.{ins_is, range_at}
 use Rattle.renderer.proofs.StreamFacts.{given_input, given_processor, interleaved-output}
-use Rattle.renderer.proofs.OutgoingFacts.{input_interleaved, incoming_small, outgoing_given}
+use Rattle.renderer.proofs.OutgoingFacts.{input_interleaved, incoming_within, bound_is, outgoing_given}
 
 -- something comes into every kind but an input
-some_ins : (kind : Kind) → HasRange kind → is_input kind ≡ false → 0 < ins_of kind
+pub some_ins : (kind : Kind) → HasRange kind → is_input kind ≡ false → 0 < ins_of kind
 some_ins (Input channels) r p = absurd (false≢true (sym p))
 some_ins (Output channels) r p = let l = r.0 in omega arith
 some_ins (Gain channels gain) r p = let a = r.0 in let l = a.0 in omega arith
@@ -38,16 +40,16 @@ some_ins (Delay channels samples) r p = let a = r.0 in let l = a.0 in omega arit
 some_ins (Insert channels samples) r p = let a = r.0 in let l = a.0 in omega arith
 
 -- a kind that is neither end
-pub processor : (kind : Kind) → ((n : ℕ) → kind ≡ Input n → ⊥) → ((n : ℕ) → kind ≡ Output n → ⊥) → IsProcessor kind
-processor (Input channels) i o = absurd (i channels refl)
-processor (Output channels) i o = absurd (o channels refl)
-processor (Gain channels gain) i o = record { no_input = refl; no_output = refl }
-processor (Mixer ins outs gains) i o = record { no_input = refl; no_output = refl }
-processor (Fir channels taps shift latency) i o = record { no_input = refl; no_output = refl }
-processor (Biquad channels b0 b1 b2 a1 a2 shift bits) i o = record { no_input = refl; no_output = refl }
-processor (Limiter channels threshold lookahead) i o = record { no_input = refl; no_output = refl }
-processor (Delay channels samples) i o = record { no_input = refl; no_output = refl }
-processor (Insert channels samples) i o = record { no_input = refl; no_output = refl }
+pub between_ends : (kind : Kind) → ((n : ℕ) → kind ≡ Input n → ⊥) → ((n : ℕ) → kind ≡ Output n → ⊥) → IsBetweenEnds kind
+between_ends (Input channels) i o = absurd (i channels refl)
+between_ends (Output channels) i o = absurd (o channels refl)
+between_ends (Gain channels gain) i o = (refl, refl)
+between_ends (Mixer ins outs gains) i o = (refl, refl)
+between_ends (Fir channels taps shift latency) i o = (refl, refl)
+between_ends (Biquad channels b0 b1 b2 a1 a2 shift bits) i o = (refl, refl)
+between_ends (Limiter channels threshold lookahead) i o = (refl, refl)
+between_ends (Delay channels samples) i o = (refl, refl)
+between_ends (Insert channels samples) i o = (refl, refl)
 
 module _ (e : Evaluation) (s : IsEvaluation e) (i : ℕ) (inside : i < length e.graph.now.nodes) (ns : List Node) (d : Node) (same : ns ≡ e.graph.now.nodes) where
   node_same : get_or ns i d ≡ get_or e.graph.now.nodes i any_node
@@ -70,11 +72,11 @@ module _ (e : Evaluation) (s : IsEvaluation e) (i : ℕ) (inside : i < length e.
       ∙ interleaved-output n (incoming e.graph.now (reach e.graph.now) (input_of e) (uid_at e.graph.now i)))
 
   -- ---- a processor
-  pub built_at : IsBuilt (get_or ns i d).kind
-  built_at = subst (λ (n : Node). IsBuilt n.kind) (sym node_same) (s.built i any_node inside)
-
   pub has_range : HasRange (get_or ns i d).kind
   has_range = subst (λ (n : Node). HasRange n.kind) (sym node_same) (range_at e.graph.now s.sound i any_node inside).1
+
+  pub has_bound : (b : Bound) → b ≡ bounds e.graph.now (uid_at e.graph.now i) → IsBoundOf (get_or ns i d).kind b
+  has_bound b is = subst (IsBoundOf (get_or ns i d).kind) (sym is) (subst (λ (n : Node). IsBoundOf n.kind (bounds e.graph.now (uid_at e.graph.now i))) (sym node_same) (bound_is e s i inside))
 
   channels : ins_of (get_or ns i d).kind ≡ ins_at e.graph.now (uid_at e.graph.now i)
   channels = ap (λ (n : Node). ins_of n.kind) node_same ∙ sym (ins_is e.graph.now s.sound i any_node inside)
@@ -85,9 +87,9 @@ module _ (e : Evaluation) (s : IsEvaluation e) (i : ℕ) (inside : i < length e.
       (wide-history_of (length (input_of e)) (ins_at e.graph.now (uid_at e.graph.now i))
       (sum_into e.graph.now (reach e.graph.now) (outgoing e.graph.now (reach e.graph.now) (input_of e)) (uid_at e.graph.now i)))
 
-  module _ (xs : List ℤ) (are : xs ≡ incoming_at e i) (p : IsProcessor (get_or ns i d).kind) where
+  module _ (xs : List ℤ) (are : xs ≡ incoming_at e i) (p : IsBetweenEnds (get_or ns i d).kind) where
     some : 0 < ins_of (get_or ns i d).kind
-    some = some_ins (get_or ns i d).kind has_range p.no_input
+    some = some_ins (get_or ns i d).kind has_range p.0
 
     pub whole : length xs % ins_of (get_or ns i d).kind ≡ 0
     whole =
@@ -96,14 +98,16 @@ module _ (e : Evaluation) (s : IsEvaluation e) (i : ℕ) (inside : i < length e.
         (let a = ap (λ ys. length ys) are in let b = length-interleaved (ins_of (get_or ns i d).kind) (incoming e.graph.now (reach e.graph.now) (input_of e) (uid_at e.graph.now i)) wide in omega arith) in
         ap (λ n. n % ins_of (get_or ns i d).kind) long ∙ mod-mul-add (length (incoming e.graph.now (reach e.graph.now) (input_of e) (uid_at e.graph.now i))) (ins_of (get_or ns i d).kind) 0 some
 
-    pub small : AreUpTo (2 ^ 46) xs
-    small = subst (AreUpTo (2 ^ 46)) (sym are) (incoming_small e s i inside)
+    are_frames : frames_of (ins_of (get_or ns i d).kind) xs ≡ incoming e.graph.now (reach e.graph.now) (input_of e) (uid_at e.graph.now i)
+    are_frames =
+        ap (frames_of (ins_of (get_or ns i d).kind)) are
+        ∙ interleaved_are_frames (ins_of (get_or ns i d).kind) (incoming e.graph.now (reach e.graph.now) (input_of e) (uid_at e.graph.now i)) some
+        (All-from_recursion (λ f. length f ≡ ins_of (get_or ns i d).kind) (incoming e.graph.now (reach e.graph.now) (input_of e) (uid_at e.graph.now i)) wide)
+
+    pub within : (b : Bound) → b ≡ bounds e.graph.now (uid_at e.graph.now i) → IsWithin b.ins (frames_of (ins_of (get_or ns i d).kind) xs)
+    within b is = subst (λ (v : Bound). IsWithin v.ins (frames_of (ins_of (get_or ns i d).kind) xs)) (sym is) (subst (IsWithin (bounds e.graph.now (uid_at e.graph.now i)).ins) (sym are_frames) (incoming_within e s i inside))
 
     pub at_processor : interleaved (stream_of (get_or ns i d).kind (frames_of (ins_of (get_or ns i d).kind) xs)) ≡ outgoing_at e i
     at_processor =
-        let h = incoming e.graph.now (reach e.graph.now) (input_of e) (uid_at e.graph.now i) in
-        ap (λ ys. interleaved (stream_of (get_or ns i d).kind (frames_of (ins_of (get_or ns i d).kind) ys))) are
-        ∙ ap (λ k. interleaved (stream_of (get_or ns i d).kind k))
-        (interleaved_are_frames (ins_of (get_or ns i d).kind) (incoming e.graph.now (reach e.graph.now) (input_of e) (uid_at e.graph.now i)) some
-        (All-from_recursion (λ f. length f ≡ ins_of (get_or ns i d).kind) (incoming e.graph.now (reach e.graph.now) (input_of e) (uid_at e.graph.now i)) wide))
-        ∙ sym (ap interleaved (given_at ∙ given_processor (get_or ns i d).kind (input_of e) (incoming e.graph.now (reach e.graph.now) (input_of e) (uid_at e.graph.now i)) p.no_input))
+        ap (λ k. interleaved (stream_of (get_or ns i d).kind k)) are_frames
+        ∙ sym (ap interleaved (given_at ∙ given_processor (get_or ns i d).kind (input_of e) (incoming e.graph.now (reach e.graph.now) (input_of e) (uid_at e.graph.now i)) p.0))

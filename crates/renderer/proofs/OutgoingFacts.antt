@@ -9,7 +9,7 @@ use Rattle.graph_model.specs.Kinds.{outs_of}
 use Rattle.graph_model.specs.Graphs.{node_named, is_input, input_name, ins_at, outs_at}
 use Rattle.graph_model.specs.Paths.{reach, depth}
 use Rattle.graph_model.specs.Answers.{given, given_by, incoming, outgoing, sum_into}
-use Rattle.graph_model.specs.Bounds.{bounds, out_bounds, IsBounded, IsInputFor}
+use Rattle.graph_model.specs.Bounds.{bounds, out_bounds, IsBounded, IsInputFor, IsWithin}
 use Rattle.graph_model.proofs.AnswerLaws.{out-solves}
 use Rattle.graph_model.proofs.BlockLaws.{length-frames_of, frames_are_interleaved}
 use Rattle.graph_model.proofs.BoundLaws.{samples_are_bounded}
@@ -18,13 +18,15 @@ use Rattle.graph_model.proofs.RankLaws.{sound_is_ranked}
 use Rattle.graph_model.specs.declared.kind.Kind.{Kind}
 use Rattle.graph_model.specs.declared.kind.Kind.TheVariants.{Input}
 use Rattle.graph_model.specs.declared.graph.Node.{Node}
+use Rattle.fixed_kernels.specs.Kernels.{IsBoundOf}
+use Rattle.headroom.proofs.BoundFacts.{length-ins, outs_are}
 use Rattle.topology.specs.Named.{uid_at}
 use Rattle.topology.proofs.NameFacts.{any_node, name_is}
 use Rattle.renderer.specs.Samples.{AreUpTo}
 use Rattle.renderer.specs.Evaluations.{IsEvaluation, input_of, incoming_at}
 use Rattle.renderer.specs.declared.evaluation.Evaluation.{Evaluation}
 use Rattle.renderer.proofs.Interleaving.{AreWide, wide-frames_of, get_or-interleaved}
-use Rattle.renderer.proofs.NodeFacts.{input_some, input_is, node_is, index_of, outs_is}
+use Rattle.renderer.proofs.NodeFacts.{input_some, input_is, node_is, index_of, ins_is, outs_is}
 use Rattle.renderer.proofs.StreamFacts.{wide-given, long-given}
 
 -- the samples of a history that is nowhere larger than b
@@ -125,12 +127,15 @@ module _ (e : Evaluation) (s : IsEvaluation e) where
 
   -- ---- by index
   module _ (i : ℕ) (inside : i < length e.graph.now.nodes) where
-    pub incoming_small : AreUpTo (2 ^ 46) (incoming_at e i)
-    incoming_small = interleaved_small (2 ^ 46) (incoming e.graph.now (reach e.graph.now) (input_of e) (uid_at e.graph.now i)) (λ c k.
-        let bounded = bounded_at i inside in
-        let within = (samples_are_bounded e.graph.now (reach e.graph.now) (input_of e) input_for (uid_at e.graph.now i)).0 c k in
-        let most = all_at (2 ^ 46) (bounds e.graph.now (uid_at e.graph.now i)).ins c bounded.0 in
-        omega arith)
+    pub incoming_within : IsWithin (bounds e.graph.now (uid_at e.graph.now i)).ins (incoming e.graph.now (reach e.graph.now) (input_of e) (uid_at e.graph.now i))
+    incoming_within = (samples_are_bounded e.graph.now (reach e.graph.now) (input_of e) input_for (uid_at e.graph.now i)).0
+
+    pub bound_is : IsBoundOf (get_or e.graph.now.nodes i any_node).kind (bounds e.graph.now (uid_at e.graph.now i))
+    bound_is = record {
+      ins = length-ins e.graph.now (uid_at e.graph.now i) ∙ ins_is e.graph.now s.sound i any_node inside;
+      outs = outs_are e.graph.now s.sound.shaped (uid_at e.graph.now i) (get_or e.graph.now.nodes i any_node) (node_is e.graph.now s.sound i any_node inside);
+      bounded = bounded_at i inside;
+    }
 
     pub outgoing_given : outgoing e.graph.now (reach e.graph.now) (input_of e) (uid_at e.graph.now i)
         ≡ given_by (get_or e.graph.now.nodes i any_node).kind (input_of e) (incoming e.graph.now (reach e.graph.now) (input_of e) (uid_at e.graph.now i))

@@ -1,51 +1,24 @@
 -- The streams of the kinds, interleaved.
-use Rattle.std.proofs.Common.{◌≡◌, ℕ, ◌*◌, ◌/◌, ◌%◌, ◌<◌, List, [], ◌∷◌, ◌++◌, length, map, get_or, ℤ, pos, refl, sym, ◌∙◌, ap, subst, arith, true, false}
-use Rattle.std.specs.Prelude.{◌*ℤ◌}
-use Rattle.std.specs.List.{range_with_len}
+use Rattle.std.proofs.Common.{◌≡◌, ℕ, zero, suc, ◌-◌, ◌*◌, ◌/◌, ◌%◌, ◌<◌, ◌≤◌, List, [], ◌∷◌, ◌++◌, length, take, drop, take_all, get_or, ℤ, pos, refl, sym, ◌∙◌, ap, subst, arith, true, false}
+use Rattle.std.specs.Prelude.{unsigned_abs}
 use Rattle.std.proofs.lemmas.Bool.{false≢true}
-use Rattle.std.proofs.lemmas.List.{map-append, append-nil, length-map, get_or-map}
-use Rattle.std.proofs.lemmas.List.FromFn.{length-map-range_with_len, fill_by_all}
+use Rattle.std.proofs.lemmas.List.{append-nil, length-drop}
+use Rattle.std.proofs.lemmas.List.FromFn.{length-map-range_with_len}
 use Rattle.std.proofs.lemmas.Nat.{div-add-mod'}
-use Rattle.graph_model.specs.Rounding.{rounded}
-use Rattle.graph_model.specs.Histories.{Frame, History, frames_of, interleaved}
+use Rattle.graph_model.specs.Histories.{Frame, History, before, frame_in, interleaved}
 use Rattle.graph_model.specs.StreamLaws.{length-each}
-use Rattle.graph_model.specs.Kinds.{ins_of, outs_of, rule_of, stream_of}
+use Rattle.graph_model.specs.Kinds.{outs_of, rule_of, stream_of}
 use Rattle.graph_model.specs.Graphs.{is_input}
-use Rattle.graph_model.specs.Ranges.{HasRange}
+use Rattle.graph_model.specs.Bounds.{IsWithin}
 use Rattle.graph_model.specs.Answers.{given_by}
-use Rattle.graph_model.proofs.BlockLaws.{frames_are_interleaved}
 use Rattle.graph_model.specs.declared.kind.Kind.{Kind}
 use Rattle.graph_model.specs.declared.kind.Kind.TheVariants.{Input, Output, Gain, Mixer, Fir, Biquad, Limiter, Delay, Insert}
-use Rattle.renderer.proofs.Interleaving.{AreWide, wide-each, wide-frames_of}
+use Rattle.fixed_kernels.specs.Kernels.{IsFrameWithin}
+use Rattle.renderer.proofs.Interleaving.{AreWide, wide-each}
 
 -- ---- whole frames
 pub frames_whole : (l k : ℕ) → l % k ≡ 0 → l ≡ l / k * k
 frames_whole l k none = let e = div-add-mod' l k in omega arith
-
--- ---- a gain changes each sample
-row-gain : (n : ℕ) (gain : ℤ) (f : Frame) → length f ≡ n → map (λ x. rounded (gain *ℤ x) 16) f ≡ map (λ c. rounded (gain *ℤ get_or f c (pos 0)) 16) (range_with_len 0 n)
-row-gain n gain f e =
-    fill_by_all (λ c. rounded (gain *ℤ get_or f c (pos 0)) 16) (map (λ x. rounded (gain *ℤ x) 16) f) n (pos 0) (length-map f (λ x. rounded (gain *ℤ x) 16) ∙ e)
-    (λ c lt. get_or-map (λ x. rounded (gain *ℤ x) 16) f c (pos 0) (pos 0) (omega arith))
-
-interleaved-gain : (n : ℕ) (gain : ℤ) (h : History) → AreWide n h → interleaved (stream_of (Gain n gain) h) ≡ map (λ x. rounded (gain *ℤ x) 16) (interleaved h)
-interleaved-gain n gain [] w = refl
-interleaved-gain n gain (f ∷ h) w =
-    let rest = interleaved-gain n gain h w.1 in
-    let here = sym (row-gain n gain f w.0) in
-    (λ i. rest i ++ here i) ∙ sym (map-append (λ x. rounded (gain *ℤ x) 16) (interleaved h) f)
-
-pub gain_stream : (kind : Kind) (n : ℕ) (gain : ℤ) (xs : List ℤ) → kind ≡ Gain n gain → HasRange kind → length xs % ins_of kind ≡ 0
-    → map (λ x. rounded (gain *ℤ x) 16) xs ≡ interleaved (stream_of kind (frames_of (ins_of kind) xs))
-gain_stream kind n gain xs is range whole =
-    subst (λ k. map (λ x. rounded (gain *ℤ x) 16) xs ≡ interleaved (stream_of k (frames_of (ins_of k) xs))) (sym is)
-    (of_gain (subst HasRange is range) (subst (λ k. length xs % ins_of k ≡ 0) is whole))
-  where
-    of_gain : HasRange (Gain n gain) → length xs % n ≡ 0 → map (λ x. rounded (gain *ℤ x) 16) xs ≡ interleaved (stream_of (Gain n gain) (frames_of n xs))
-    of_gain r none =
-        let some : 0 < n = (let channels = r.0 in let l = channels.0 in omega arith) in
-        let rows = frames_whole (length xs) n none in
-        sym (interleaved-gain n gain (frames_of n xs) (wide-frames_of n (length xs / n) xs some rows) ∙ ap (map (λ x. rounded (gain *ℤ x) 16)) (frames_are_interleaved n (length xs / n) xs some rows))
 
 -- ---- what goes out of an output node is nothing
 pub interleaved-output : (n : ℕ) (h : History) → interleaved (stream_of (Output n) h) ≡ []
@@ -78,3 +51,21 @@ given_input kind n h s is = ap (λ k. given_by k h s) is
 pub given_processor : (kind : Kind) (h s : History) → is_input kind ≡ false → given_by kind h s ≡ stream_of kind s
 given_processor (Input n) h s isnt = absurd (false≢true (sym isnt))
 given_processor kind h s isnt = refl
+
+-- ---- frames one by one
+-- the frame k before the last of n
+pub before-at : (x : ℕ → Frame) (n k : ℕ) → k < n → get_or (before x n) k [] ≡ x (n - 1 - k)
+before-at x zero k lt = absurd (omega arith)
+before-at x (suc n) zero lt = let e : n ≡ suc n - 1 - 0 = omega arith in ap x e
+before-at x (suc n) (suc k) lt = let e : n - 1 - k ≡ suc n - 1 - suc k = omega arith in before-at x n k (omega arith) ∙ ap x e
+
+-- each frame of a history within the bounds is
+pub frame_within : (bs : List ℕ) (x : ℕ → Frame) (n t : ℕ) → IsWithin bs (before x n) → t < n → IsFrameWithin bs (x t)
+frame_within bs x n t within lt c =
+    let back : n - 1 - (n - 1 - t) ≡ t = omega arith in
+    let at : get_or (before x n) (n - 1 - t) [] ≡ x t = before-at x n (n - 1 - t) (omega arith) ∙ ap x back in
+    subst (λ f. unsigned_abs (get_or f c (pos 0)) ≤ get_or bs c 0) at (within c (n - 1 - t))
+
+-- frame t as it is cut out
+pub frame_is : (m t : ℕ) (xs : List ℤ) → take m (take (length xs - t * m) (drop (t * m) xs)) ≡ frame_in m xs t
+frame_is m t xs = ap (take m) (take_all (length xs - t * m) (drop (t * m) xs) (omega (arith, length-drop (t * m) xs)))

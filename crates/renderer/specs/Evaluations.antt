@@ -7,7 +7,6 @@ use Rattle.graph_model.specs.Histories.{History, frames_of, interleaved}
 use Rattle.graph_model.specs.Paths.{reach}
 use Rattle.graph_model.specs.Sound.{IsSound}
 use Rattle.topology.specs.Named.{uid_at}
-use Rattle.renderer.specs.Built.{AreBuilt}
 use Rattle.renderer.specs.Routes.{AreRoutes}
 use Rattle.renderer.specs.Samples.{AreUpTo}
 use Rattle.renderer.specs.declared.evaluation.Evaluation.{Evaluation}
@@ -23,10 +22,9 @@ outgoing_at e i = interleaved (outgoing e.graph.now (reach e.graph.now) (input_o
 abbrev pub incoming_at : Evaluation → ℕ → List ℤ
 incoming_at e i = interleaved (incoming e.graph.now (reach e.graph.now) (input_of e) (uid_at e.graph.now i))
 
--- whole frames of small samples, and the routes of a graph that can be rendered
+-- whole frames of small samples, and the routes of a sound graph
 pub record IsEvaluation (e : Evaluation) : Type 0 where
   pub sound : IsSound e.graph.now
-  pub built : AreBuilt e.graph.now
   pub routes : AreRoutes e.graph.now e.routes.items
   pub whole : length e.input.now ≡ e.frames * outs_at e.graph.now (input_name e.graph.now)
   pub small : AreUpTo (2 ^ 31) e.input.now

@@ -1,4 +1,3 @@
 pub mod Samples
-pub mod Built
 pub mod Routes
 pub mod Evaluations

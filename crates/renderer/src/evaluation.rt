@@ -2,7 +2,6 @@
 
 ghost use Rattle.std.specs.Prelude.{◌≡◌, ◌%◌, ◌^◌, ◌<◌, IfOk, length};
 ghost use Rattle.graph_model.specs.Graphs.{input_name, outs_at};
-ghost use Rattle.renderer.specs.Built.{AreBuilt};
 ghost use Rattle.renderer.specs.Samples.{AreUpTo};
 
 use crate::lookup::input_channels;
@@ -30,7 +29,6 @@ impl<'a> Evaluation<'a> {
         graph: &'a Checked,
         input: &'a [i64],
     ) -> Result<Self, AllocError>
-        requires built { AreBuilt graph.now }
         requires whole { length input.now % outs_at graph.now (input_name graph.now) ≡ 0 }
         requires small { AreUpTo (2 ^ 31) input.now }
         requires few { length input.now < 2 ^ 40 }
@@ -86,8 +84,9 @@ impl<'a> Evaluation<'a> {
             Kind::Input { .. } => List::from_slice(alloc, self.input),
             Kind::Output { .. } => Ok(List::new(alloc)),
             _ => {
+                let bound = self.graph.bound(node as u32);
                 let incoming = self.incoming(alloc, streams, node)?;
-                outgoing(alloc, kind, &incoming)
+                outgoing(alloc, kind, bound, &incoming)
             }
         }
     }

@@ -3,7 +3,7 @@ ghost use Rattle.graph_model.specs.Sound.{Fits};
 ghost use Rattle.renderer.specs.Samples.{AreUpTo};
 
 use crate::lookup::input_channels;
-use crate::{answer, is_built};
+use crate::answer;
 use connections::check;
 use graph_model::{Connection, Graph, Kind, List, Node, Uid};
 use std::alloc::{AllocError, Global};
@@ -22,7 +22,7 @@ fn scaled_up(alloc: Global, samples: &[i16]) -> Result<List<i64>, AllocError>
     Ok(values)
 }
 
-/// The answer of a sound graph of built nodes to whole frames.
+/// The answer of a sound graph to whole frames.
 fn rendered(
     rt: &impl Abort,
     alloc: Global,
@@ -34,8 +34,6 @@ fn rendered(
 {
     let input = scaled_up(alloc, samples)?;
     let checked = check(alloc, graph)?;
-    let built = is_built(checked.graph());
-    assert!(rt; built);
     let left = input.len() % input_channels(checked.graph());
     assert_eq!(rt; left, 0);
     Ok(answer(alloc, &checked, input.as_slice())?)
@@ -138,12 +136,43 @@ fn no_frames_give_none(rt: HostRuntime) -> Result<(), Fail> {
 }
 
 #[test]
-fn an_insert_is_not_built(rt: HostRuntime) -> Result<(), Fail> {
+fn an_insert_and_the_way_beside_it_meet(rt: HostRuntime) -> Result<(), Fail> {
     let insert = Kind::Insert {
         channels: 1,
         samples: 5,
     };
-    let graph = graph_of(rt.alloc(), 1, 1, insert, &[])?;
-    assert!(rt; !is_built(&graph));
+    let ways = [joined(1, 0, 3, 0), joined(3, 0, 2, 0), joined(1, 0, 2, 0)];
+    let graph = graph_of(rt.alloc(), 1, 1, insert, &ways)?;
+    let output = rendered(&rt, rt.alloc(), graph, &[1000, 0, 0, 0, 0, 0])?;
+    assert_eq!(rt; output.as_slice(), [0, 0, 0, 0, 0, 131072000].as_slice());
+    Ok(())
+}
+
+#[test]
+fn a_filter_has_its_latency_in_its_taps(rt: HostRuntime) -> Result<(), Fail> {
+    let fir = Kind::Fir {
+        channels: 1,
+        taps: List::from_slice(rt.alloc(), &[1, 2, 1])?,
+        shift: 0,
+        latency: 1,
+    };
+    let way = [joined(1, 0, 3, 0), joined(3, 0, 2, 0)];
+    let graph = graph_of(rt.alloc(), 1, 1, fir, &way)?;
+    let output = rendered(&rt, rt.alloc(), graph, &[4, 0])?;
+    assert_eq!(rt; output.as_slice(), [262144, 524288].as_slice());
+    Ok(())
+}
+
+#[test]
+fn a_limiter_holds_its_threshold(rt: HostRuntime) -> Result<(), Fail> {
+    let limiter = Kind::Limiter {
+        channels: 1,
+        threshold: 6553600,
+        lookahead: 1,
+    };
+    let way = [joined(1, 0, 3, 0), joined(3, 0, 2, 0)];
+    let graph = graph_of(rt.alloc(), 1, 1, limiter, &way)?;
+    let output = rendered(&rt, rt.alloc(), graph, &[200, 50])?;
+    assert_eq!(rt; output.as_slice(), [0, 6553600].as_slice());
     Ok(())
 }
