@@ -7,7 +7,9 @@ use Rattle.shortest_paths.specs.Walks.{Reaches, IsWithin, number_of}
 use Rattle.shortest_paths.proofs.WalkLemmas.{some_same, edge_at}
 use Rattle.min_cost_flow.specs.declared.network.Arc.{Arc}
 use Rattle.min_cost_flow.specs.declared.network.Network.{Network}
+use Rattle.min_cost_flow.specs.Laws.{weight_of, bound_of, IsOfLeastCost, IsOfLeastBound}
 use Rattle.min_cost_flow.specs.Flow.{IsNetwork, IsTight, MeetsNeeds, length_of}
+use Rattle.min_cost_flow.proofs.DualityLemmas.{tight_is_optimal_law}
 use Rattle.min_cost_flow.proofs.NetworkLemmas.{no_positive_cycle_from_potentials, connected_by_root}
 
 abbrev pub arc : ℕ → ℕ → ℤ → Arc
@@ -202,3 +204,20 @@ units_past_the_insert_are_refused h = let le = h.no_more 0 (arc 1 2 (pos 0)) ref
 -- one unit does not meet a need of two
 one_unit_is_too_few : MeetsNeeds 4 insert_arcs insert_net.need (0 ∷ 1 ∷ 1 ∷ 0 ∷ 0 ∷ 0 ∷ 0 ∷ 0 ∷ []) → ⊥
 one_unit_is_too_few h = let e = h 2 (omega arith) in omega (arith, ints)
+
+-- ---- weak duality at two units over the insert
+
+-- each of the two units waits for the insert of 5 frames, and the need of two stands at potential 5
+the_weight_is_ten : weight_of insert_net insert_flow ≡ pos 10
+the_weight_is_ten = refl
+
+the_bound_is_ten : bound_of insert_net (number_of insert_potential) ≡ pos 10
+the_bound_is_ten = refl
+
+two_units_over_the_insert_are_optimal : IsOfLeastCost insert_net insert_flow × IsOfLeastBound insert_net (number_of insert_potential)
+two_units_over_the_insert_are_optimal =
+    tight_is_optimal_law insert_net insert_flow (number_of insert_potential) insert_net_is_one.ends two_units_meet_the_needs two_units_over_the_insert_are_tight
+
+-- units past the insert weigh nothing, and so are not of least cost
+units_past_the_insert_are_not_optimal : IsOfLeastCost insert_net (2 ∷ 0 ∷ 0 ∷ 0 ∷ 0 ∷ 0 ∷ 0 ∷ 0 ∷ []) → ⊥
+units_past_the_insert_are_not_optimal h = let le = h insert_flow two_units_meet_the_needs in omega (arith, ints)

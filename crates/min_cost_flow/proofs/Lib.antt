@@ -5,4 +5,5 @@ pub mod ResidualLemmas
 pub mod TightLemmas
 pub mod SolveLemmas
 pub mod NetworkLemmas
+pub mod DualityLemmas
 pub mod Examples

@@ -13,6 +13,7 @@
 #![tactic(auto)]
 
 mod augment;
+pub mod laws;
 mod network;
 mod residual;
 mod search;
