@@ -2,8 +2,8 @@ ghost use Rattle.std.specs.Prelude.{◌≡◌, ◌^◌, ◌<◌, ◌≤◌, IfOk
 ghost use Rattle.graph_model.specs.Sound.{Fits};
 ghost use Rattle.renderer.specs.Samples.{AreUpTo};
 
-use crate::lookup::input_channels;
 use crate::answer;
+use crate::lookup::input_channels;
 use connections::check;
 use graph_model::{Connection, Graph, Kind, List, Node, Uid};
 use std::alloc::{AllocError, Global};
