@@ -1,8 +1,8 @@
 -- Flows in a network whose arcs have no capacity, and the potentials that certify them.
 --
--- The words are those of Ahuja, Magnanti and Orlin, Network Flows, chapter 9. A point of theirs is a node. A need is minus
--- their supply, a least difference is minus their cost, and a potential is minus theirs, so that the reduced cost of an
--- arc is the difference of the potentials along it less its least difference.
+-- The words are those of Ahuja, Magnanti and Orlin, Network Flows, chapter 9. A point is a node of theirs. A need is minus
+-- their supply, a least difference minus their cost, and a potential is theirs, so that the reduced cost of an arc is the
+-- difference of the potentials along it less its least difference.
 use Rattle.std.specs.Prelude.{◌≡◌, ℕ, ◌+◌, ◌<◌, ◌≤◌, ◌^◌, ◌==◌, ℤ, pos, ◌+ℤ◌, ◌-ℤ◌, ◌≤ℤ◌, List, [], ◌∷◌, length, map, Bool, if◌then◌else◌, slice_get, slice_index, Some}
 use Rattle.shortest_paths.specs.declared.edges.Edge.{Edge}
 use Rattle.shortest_paths.specs.Walks.{IsWalk, cost_of, number_of, IsWithin, Reaches}
