@@ -1,22 +1,18 @@
 -- What the definitions refuse: a false instance of each.
-use Rattle.std.proofs.Common.{◌≡◌, ◌≢◌, ℕ, zero, suc, ◌+◌, ◌<◌, ◌≤◌, List, [], ◌∷◌, ◌++◌, length, map, take, get_or, true, false, ℤ, pos, negsuc, refl, sym, ap, ◌∙◌, subst, arith, Option, Some, None, inl, inr, ◌==◌}
-use Rattle.std.specs.Prelude.{reverse, AllPairs, count_by, unsigned_abs}
-use Rattle.std.specs.List.{All, Contains}
-use Rattle.graph_model.specs.Histories.{Frame, History, sample, silence, stream, IsQuietRule}
-use Rattle.graph_model.specs.Kinds.{stream_of}
+use Rattle.std.proofs.Common.{◌≡◌, ◌≢◌, ℕ, ◌<◌, ◌≤◌, List, [], ◌∷◌, map, true, false, pos, negsuc, refl, sym, ap, ◌∙◌, arith, Some, None, ◌==◌}
+use Rattle.std.specs.Prelude.{unsigned_abs}
+use Rattle.graph_model.specs.Histories.{sample, IsQuietRule}
 use Rattle.graph_model.specs.Kept.{Kept, kept, StandsFor}
 use Rattle.graph_model.specs.Members.{bad_member}
-use Rattle.graph_model.specs.Graphs.{IsNode, IsJoined, IsRanked, is_input}
-use Rattle.graph_model.specs.Paths.{IsPathTo, IsLive, is_live, leads, IsReach, reach, reach_within, latencies, IsAcyclic, IsPrinted}
+use Rattle.graph_model.specs.Graphs.{IsRanked}
+use Rattle.graph_model.specs.Paths.{IsPathTo, is_live, leads, IsReach, reach, reach_within, IsAcyclic}
 use Rattle.graph_model.specs.Checks.{IsConnection, IsClosedWalk}
 use Rattle.graph_model.specs.Answers.{answer, answer_at, out_within}
-use Rattle.graph_model.specs.Bounds.{bounds, bounds_within, IsBounded}
+use Rattle.graph_model.specs.Bounds.{bounds, bounds_within}
 use Rattle.graph_model.specs.Sound.{IsSound}
 use Rattle.graph_model.specs.declared.member.Member.TheVariants as member
-use Rattle.graph_model.specs.declared.kind.Kind.{Kind}
 use Rattle.graph_model.specs.declared.kind.Kind.TheVariants.{Input, Output, Gain, Mixer, Fir, Biquad, Limiter, Delay, Insert}
 use Rattle.graph_model.specs.declared.graph.Uid.{Uid}
-use Rattle.graph_model.specs.declared.graph.Node.{Node}
 use Rattle.graph_model.specs.declared.graph.Connection.{Connection}
 use Rattle.graph_model.specs.declared.graph.Graph.{Graph}
 use Rattle.graph_model.proofs.PathLaws.{same_name}

@@ -1,5 +1,5 @@
 -- What comes into a node, as an index formula.
-use Rattle.std.proofs.Common.{◌≡◌, ℕ, zero, suc, ◌+◌, ◌-◌, ◌<◌, [], length, reverse, pos, refl, sym, ap, ◌∙◌, subst, arith, Option, Some, None, Bool, true, false, cond, ◌⊎◌, inl, inr, List, ◌∷◌, ◌==◌}
+use Rattle.std.proofs.Common.{◌≡◌, ℕ, zero, suc, ◌+◌, ◌-◌, ◌<◌, [], length, pos, refl, sym, ap, ◌∙◌, arith, Option, Some, None, true, false, cond, ◌⊎◌, inl, inr, List, ◌∷◌, ◌==◌}
 use Rattle.std.specs.Prelude.{nat_le}
 use Rattle.std.specs.List.{find}
 use Rattle.graph_model.specs.Histories.{History, sample}
@@ -12,7 +12,6 @@ use Rattle.graph_model.specs.Times.{at_time, earlier, InputFormula, IncomingForm
 use Rattle.graph_model.specs.declared.kind.Kind.{Kind}
 use Rattle.graph_model.specs.declared.kind.Kind.TheVariants.{Input}
 use Rattle.graph_model.specs.declared.graph.Node.{Node}
-use Rattle.graph_model.specs.declared.graph.Connection.{Connection}
 use Rattle.graph_model.specs.declared.graph.Graph.{Graph}
 use Rattle.graph_model.proofs.HistoryLaws.{sum_of-same, all_of, length-history_of, sample-history_of}
 use Rattle.graph_model.proofs.TimeLaws.{at_time_ago, earlier_ago}
