@@ -1,6 +1,5 @@
 mod Numerals
 mod ChannelLaws
-mod LatencyLaws
 mod PartLaws
 mod OutputLaws
 mod EndLaws

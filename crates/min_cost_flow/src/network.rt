@@ -3,7 +3,7 @@
 use graph_model::List;
 
 /// A directed arc without capacity.
-#[derive(Clone, Copy, PartialEq, Eq, Debug)]
+#[derive(Clone, Copy, PartialEq, Eq, PartialOrd, Ord, Debug)]
 pub struct Arc {
     /// The point that it leaves.
     pub tail: u32,

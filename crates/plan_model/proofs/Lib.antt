@@ -24,3 +24,4 @@ pub mod LifeLaws
 pub mod UniqueLaws
 pub mod Distinct
 pub mod WaveLaws
+pub mod LatencyLaws

@@ -4,7 +4,7 @@ use Rattle.graph_model.specs.Graphs.{is_output}
 use Rattle.graph_model.specs.Paths.{reach}
 use Rattle.topology.proofs.OutputFacts.{output_named}
 use Rattle.graph_host.proofs.ChannelLaws.{output_there}
-use Rattle.graph_host.proofs.LatencyLaws.{few_frames_late}
+use Rattle.plan_model.proofs.LatencyLaws.{few_frames_late}
 use Rattle.graph_host.proofs.channels.latency.Goals as goal
 
 pub unwrap-index-requires : goal.unwrap-index-requires
