@@ -1,7 +1,7 @@
 -- How long the answer of a graph is, and the file that it makes.
-use Rattle.std.proofs.Common.{◌≡◌, ℕ, zero, suc, ℤ, pos, ◌+◌, ◌*◌, ◌/◌, ◌<◌, ◌≤◌, ◌^◌, ◌%◌, List, ◌++◌, ◌-◌, drop, length, replicate, sym, ap, ◌∙◌, arith, inl, inr}
+use Rattle.std.proofs.Common.{◌≡◌, ℕ, zero, suc, ℤ, pos, ◌+◌, ◌*◌, ◌/◌, ◌<◌, ◌≤◌, ◌^◌, ◌%◌, List, ◌++◌, ◌-◌, drop, length, min, replicate, sym, ap, ◌∙◌, arith, inl, inr}
 use Rattle.std.proofs.Math.Nat.{mul-mod_left, mul-le-mul_left, mul-le-mul_right, mul_assoc}
-use Rattle.graph_model.specs.Histories.{History, frames_of, interleaved, silence, history_of}
+use Rattle.graph_model.specs.Histories.{History, frames_of, interleaved, shifted, silence, history_of}
 use Rattle.graph_model.specs.Graphs.{output_name}
 use Rattle.graph_model.specs.Paths.{reach}
 use Rattle.graph_model.specs.Answers.{answer, outgoing, sum_into}
@@ -9,7 +9,7 @@ use Rattle.graph_model.specs.declared.graph.Graph.{Graph}
 use Rattle.graph_model.proofs.HistoryLaws.{length-history_of}
 use Rattle.graph_model.proofs.BlockLaws.{length-frames_of, frames_of-append, interleaved_are_frames}
 use Rattle.renderer.proofs.Interleaving.{wide-history_of, length-interleaved}
-use Rattle.std.proofs.lemmas.List.{get_or-replicate, length-drop, length-replicate, replicate-append-replicate}
+use Rattle.std.proofs.lemmas.List.{append-nil, get_or-replicate, length-drop, length-replicate, replicate-append-replicate}
 use Rattle.wav_pcm.specs.Heads.{head_of, wave_file_of}
 use Rattle.wav_pcm.specs.declared.head.Head.{Head}
 use Rattle.wav_pcm.specs.Samples.{bytes_of, IsSize}
@@ -25,6 +25,13 @@ length-answer g h =
     let into = sum_into g (reach g) (outgoing g (reach g) h) (output_name g) in
     length-interleaved (out_channels g) (history_of (length h) (out_channels g) into) (wide-history_of (length h) (out_channels g) into)
     ∙ ap (λ n. n * out_channels g) (length-history_of (length h) (out_channels g) into)
+
+-- at the graph's latency the answer is not shifted
+pub not_shifted : (late early m : ℕ) (h : History) → late ≡ early → shifted (late - early) m h ≡ h
+not_shifted late early m h same =
+    let none : late - early ≡ 0 = omega arith in
+    let short : min 0 (length h) ≡ 0 = omega arith in
+    ap (λ k. shifted k m h) none ∙ ap (λ k. h ++ silence k m) short ∙ append-nil h
 
 -- samples of whole frames
 pub whole_frames : (g : Graph) (frames : ℕ) (samples : List ℤ) → length samples ≡ frames * in_channels g → length samples % in_channels g ≡ 0

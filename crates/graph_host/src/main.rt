@@ -4,10 +4,10 @@
 //! the command line, prints the text of the end on standard error and ends with its status. What `run` promises holds
 //! of every folder and sink: which words are a request, that the output file is exactly the graph's answer, each node
 //! at its reach, that nothing else changed, that a write that fails leaves a first part of that file, and why each
-//! other end came.
+//! other end came. It renders where the nodes stand with the fewest delay samples, which does not show in the answer.
 //!
 //! It stands on graph_model (what a graph is, and its answer), graph_records (graphs in JSON), wav_pcm (WAV files),
-//! renderer (the answer's samples) and gh_outside (files and what is printed).
+//! alignment (where the nodes stand), renderer (the answer's samples) and gh_outside (files and what is printed).
 #![tactic(auto)]
 
 mod channels;

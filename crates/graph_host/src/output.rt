@@ -1,7 +1,9 @@
 //! The output file, made in memory and then written.
 
-ghost use Rattle.std.specs.Prelude.{◌≡◌, ◌*◌, ◌/◌, ◌%◌, ◌^◌, ◌≤◌, ◌⊎◌, IfOk, OnOk, OnErr, drop, length, replicate, unsigned_abs};
+ghost use Rattle.std.specs.Prelude.{◌≡◌, ◌*◌, ◌/◌, ◌%◌, ◌^◌, ◌<◌, ◌≤◌, ◌⊎◌, IfOk, OnOk, OnErr, drop, length, replicate, unsigned_abs};
 ghost use Rattle.std.specs.List.{All};
+ghost use Rattle.graph_model.specs.Answers.{answer};
+ghost use Rattle.graph_model.specs.Histories.{frames_of, interleaved};
 ghost use Rattle.graph_model.specs.Sound.{IsSound};
 ghost use Rattle.gh_outside.specs.Causes.{Rose};
 ghost use Rattle.gh_outside.specs.Holdings.{Holds, IsMissing, KeepsOthers};
@@ -13,10 +15,11 @@ ghost use Rattle.graph_host.specs.Steps.{IsAppended, IsPart, IsPartAppended};
 
 use crate::forms::Form;
 use crate::recordings::Recording;
+use alignment::align;
 use connections::Checked;
 use gh_outside::{Failed, Folder};
 use graph_model::List;
-use renderer::answer;
+use renderer::answer_at;
 use std::alloc::{AllocError, Global};
 use wav_pcm::{head_bytes, put_frames};
 
@@ -41,6 +44,18 @@ fn without_first(alloc: Global, samples: List<i64>, count: usize) -> Result<List
     List::from_slice(alloc, &samples.as_slice()[count..])
 }
 
+/// The graph's answer to whole frames, rendered where the nodes stand with the fewest delay samples.
+fn aligned_answer(alloc: Global, graph: &Checked, samples: &[i64]) -> Result<List<i64>, AllocError>
+    requires sound { IsSound graph.now }
+    requires whole { length samples.now % in_channels graph.now ≡ 0 }
+    requires small { All (λ x. unsigned_abs x ≤ 2 ^ 31) samples.now }
+    requires few { length samples.now < 2 ^ 40 }
+    ensures { IfOk result (λ v. v ≡ interleaved (answer graph.now (frames_of (in_channels graph.now) samples.now))) }
+{
+    let aligned = align(alloc, graph)?;
+    answer_at(alloc, graph, &aligned.at, samples)
+}
+
 /// What a graph makes of a recording.
 pub(crate) fn rendered_file(
     alloc: Global,
@@ -58,7 +73,7 @@ pub(crate) fn rendered_file(
     ensures room { IfOk result HasRoom }
 {
     let form = &recording.form;
-    let answer = answer(alloc, graph, recording.samples.as_slice())?;
+    let answer = aligned_answer(alloc, graph, recording.samples.as_slice())?;
     let skipped = form.skipped as usize * form.channels as usize;
     let samples = without_first(alloc, answer, skipped)?;
     let bytes = vec![in alloc; 0u8; samples.len() * (form.bits as usize / 8)]?;

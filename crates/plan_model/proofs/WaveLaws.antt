@@ -160,16 +160,16 @@ module _ (g : Graph) (sound : IsSound g) (waves : List Wave) where
   output_exists : IsNode g (output_name g)
   output_exists = output_in g.nodes sound.shaped.ends.1
 
-  tested : (v : ℕ) → IsLive g v → is_live g v ≡ true
+  pub tested : (v : ℕ) → IsLive g v → is_live g v ≡ true
   tested v live = live_by_test g (depth g) (sound_is_ranked g sound) v live
 
-  shown : (v : ℕ) → is_live g v ≡ true → IsLive g v
+  pub shown : (v : ℕ) → is_live g v ≡ true → IsLive g v
   shown v is = live_by_paths g (depth g) (sound_is_ranked g sound) output_exists v is
 
-  kept : (v : ℕ) → IsLive g v → Contains (live_nodes g) v
+  pub kept : (v : ℕ) → IsLive g v → Contains (live_nodes g) v
   kept v live = filter_has (is_live g) (names_of g) v (listed g v live) (tested v live)
 
-  live_differ : Differ (live_nodes g)
+  pub live_differ : Differ (live_nodes g)
   live_differ = differ_filtered (is_live g) (names_of g) (names_differ g.nodes sound.shaped.uids_differ)
 
   to_schedule : ((k : ℕ) → IsWaveAt g waves k) → IsSchedule g waves

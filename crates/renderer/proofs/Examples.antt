@@ -1,6 +1,8 @@
--- The definitions at small streams, by computation.
+-- The definitions at small streams and graphs, by computation.
 use Rattle.std.proofs.Common.{◌≡◌, ℕ, zero, suc, ◌<◌, List, [], ◌∷◌, ℤ, pos, ◌+ℤ◌, refl, arith}
 use Rattle.std.proofs.lemmas.Int.{ints}
+use Rattle.graph_model.proofs.Examples.{fan_out}
+use Rattle.renderer.specs.Positions.{position_at}
 use Rattle.renderer.specs.Routes.{IsAdded, sample_in, sample_before}
 use Rattle.renderer.specs.declared.routes.Channel.{Channel}
 use Rattle.renderer.specs.declared.routes.Route.{Route}
@@ -37,3 +39,12 @@ not_in_time a = let e : pos 24 ≡ pos 22 = a.added 1 (omega arith) in absurd (o
 -- what was there is kept
 not_in_its_place : IsAdded 2 into_mono stereo (pos 10 ∷ pos 20 ∷ []) (pos 10 ∷ pos 2 ∷ []) → ⊥
 not_in_its_place a = let e : pos 2 ≡ pos 22 = a.added 1 (omega arith) in absurd (omega (arith, ints))
+
+-- the third node of the list is named 3; no node is named 9
+a_position_by_name : position_at fan_out (0 ∷ 5 ∷ 7 ∷ 0 ∷ []) 3 ≡ 7
+unfolding fan_out
+a_position_by_name = refl
+
+no_position_of_no_node : position_at fan_out (1 ∷ 5 ∷ 7 ∷ 2 ∷ []) 9 ≡ 0
+unfolding fan_out
+no_position_of_no_node = refl

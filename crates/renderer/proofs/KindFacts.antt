@@ -1,5 +1,5 @@
 -- What goes out of a node, by its kind.
-use Rattle.std.proofs.Common.{◌≡◌, ℕ, ◌+◌, ◌*◌, ◌%◌, ◌^◌, ◌<◌, List, [], length, get_or, ℤ, refl, sym, ◌∙◌, ap, subst, arith, false}
+use Rattle.std.proofs.Common.{◌≡◌, ℕ, ◌+◌, ◌*◌, ◌%◌, ◌<◌, List, [], length, get_or, ℤ, refl, sym, ◌∙◌, ap, subst, arith, false}
 use Rattle.std.proofs.lemmas.Bool.{false≢true}
 use Rattle.std.proofs.lemmas.List.{get_or_default}
 use Rattle.std.proofs.lemmas.List.Elements.{All-from_recursion}
@@ -7,7 +7,6 @@ use Rattle.std.proofs.lemmas.Nat.{mod-mul-add}
 use Rattle.graph_model.specs.Histories.{frames_of, interleaved}
 use Rattle.graph_model.specs.Kinds.{ins_of, stream_of}
 use Rattle.graph_model.specs.Graphs.{is_input, ins_at}
-use Rattle.graph_model.specs.Paths.{reach}
 use Rattle.graph_model.specs.Bounds.{bounds, IsWithin}
 use Rattle.graph_model.specs.Ranges.{HasRange}
 use Rattle.graph_model.specs.Answers.{given_by, incoming, outgoing, sum_into}
@@ -20,7 +19,7 @@ use Rattle.fixed_kernels.specs.Kernels.{IsBoundOf}
 use Rattle.processors.specs.Types.{IsBetweenEnds}
 use Rattle.topology.specs.Named.{uid_at}
 use Rattle.topology.proofs.NameFacts.{any_node}
-use Rattle.renderer.specs.Evaluations.{IsEvaluation, input_of, incoming_at, outgoing_at}
+use Rattle.renderer.specs.Evaluations.{IsEvaluation, input_of, positions_of, incoming_at, outgoing_at}
 use Rattle.renderer.specs.declared.evaluation.Evaluation.{Evaluation}
 use Rattle.renderer.proofs.Interleaving.{AreWide, wide-history_of, length-interleaved}
 use Rattle.renderer.proofs.NodeFacts.{ins_is, range_at}
@@ -55,21 +54,21 @@ module _ (e : Evaluation) (s : IsEvaluation e) (i : ℕ) (inside : i < length e.
   node_same : get_or ns i d ≡ get_or e.graph.now.nodes i any_node
   node_same = ap (λ xs. get_or xs i d) same ∙ get_or_default e.graph.now.nodes i d any_node inside
 
-  given_at : outgoing e.graph.now (reach e.graph.now) (input_of e) (uid_at e.graph.now i)
-      ≡ given_by (get_or ns i d).kind (input_of e) (incoming e.graph.now (reach e.graph.now) (input_of e) (uid_at e.graph.now i))
+  given_at : outgoing e.graph.now (positions_of e) (input_of e) (uid_at e.graph.now i)
+      ≡ given_by (get_or ns i d).kind (input_of e) (incoming e.graph.now (positions_of e) (input_of e) (uid_at e.graph.now i))
   given_at =
       outgoing_given e s i inside
-      ∙ ap (λ (n : Node). given_by n.kind (input_of e) (incoming e.graph.now (reach e.graph.now) (input_of e) (uid_at e.graph.now i))) (sym node_same)
+      ∙ ap (λ (n : Node). given_by n.kind (input_of e) (incoming e.graph.now (positions_of e) (input_of e) (uid_at e.graph.now i))) (sym node_same)
 
   pub at_input : (n : ℕ) → (get_or ns i d).kind ≡ Input n → e.input.now ≡ outgoing_at e i
   at_input n is =
-      sym (ap interleaved (given_at ∙ given_input (get_or ns i d).kind n (input_of e) (incoming e.graph.now (reach e.graph.now) (input_of e) (uid_at e.graph.now i)) is)
+      sym (ap interleaved (given_at ∙ given_input (get_or ns i d).kind n (input_of e) (incoming e.graph.now (positions_of e) (input_of e) (uid_at e.graph.now i)) is)
       ∙ input_interleaved e s)
 
   pub at_output : (n : ℕ) → (get_or ns i d).kind ≡ Output n → [] ≡ outgoing_at e i
   at_output n is =
-      sym (ap interleaved (given_at ∙ ap (λ k. given_by k (input_of e) (incoming e.graph.now (reach e.graph.now) (input_of e) (uid_at e.graph.now i))) is)
-      ∙ interleaved-output n (incoming e.graph.now (reach e.graph.now) (input_of e) (uid_at e.graph.now i)))
+      sym (ap interleaved (given_at ∙ ap (λ k. given_by k (input_of e) (incoming e.graph.now (positions_of e) (input_of e) (uid_at e.graph.now i))) is)
+      ∙ interleaved-output n (incoming e.graph.now (positions_of e) (input_of e) (uid_at e.graph.now i)))
 
   -- ---- a processor
   pub has_range : HasRange (get_or ns i d).kind
@@ -81,11 +80,11 @@ module _ (e : Evaluation) (s : IsEvaluation e) (i : ℕ) (inside : i < length e.
   channels : ins_of (get_or ns i d).kind ≡ ins_at e.graph.now (uid_at e.graph.now i)
   channels = ap (λ (n : Node). ins_of n.kind) node_same ∙ sym (ins_is e.graph.now s.sound i any_node inside)
 
-  wide : AreWide (ins_of (get_or ns i d).kind) (incoming e.graph.now (reach e.graph.now) (input_of e) (uid_at e.graph.now i))
+  wide : AreWide (ins_of (get_or ns i d).kind) (incoming e.graph.now (positions_of e) (input_of e) (uid_at e.graph.now i))
   wide =
-      subst (λ m. AreWide m (incoming e.graph.now (reach e.graph.now) (input_of e) (uid_at e.graph.now i))) (sym channels)
+      subst (λ m. AreWide m (incoming e.graph.now (positions_of e) (input_of e) (uid_at e.graph.now i))) (sym channels)
       (wide-history_of (length (input_of e)) (ins_at e.graph.now (uid_at e.graph.now i))
-      (sum_into e.graph.now (reach e.graph.now) (outgoing e.graph.now (reach e.graph.now) (input_of e)) (uid_at e.graph.now i)))
+      (sum_into e.graph.now (positions_of e) (outgoing e.graph.now (positions_of e) (input_of e)) (uid_at e.graph.now i)))
 
   module _ (xs : List ℤ) (are : xs ≡ incoming_at e i) (p : IsBetweenEnds (get_or ns i d).kind) where
     some : 0 < ins_of (get_or ns i d).kind
@@ -93,16 +92,16 @@ module _ (e : Evaluation) (s : IsEvaluation e) (i : ℕ) (inside : i < length e.
 
     pub whole : length xs % ins_of (get_or ns i d).kind ≡ 0
     whole =
-        let h = incoming e.graph.now (reach e.graph.now) (input_of e) (uid_at e.graph.now i) in
-        let long : length xs ≡ length (incoming e.graph.now (reach e.graph.now) (input_of e) (uid_at e.graph.now i)) * ins_of (get_or ns i d).kind + 0 =
-        (let a = ap (λ ys. length ys) are in let b = length-interleaved (ins_of (get_or ns i d).kind) (incoming e.graph.now (reach e.graph.now) (input_of e) (uid_at e.graph.now i)) wide in omega arith) in
-        ap (λ n. n % ins_of (get_or ns i d).kind) long ∙ mod-mul-add (length (incoming e.graph.now (reach e.graph.now) (input_of e) (uid_at e.graph.now i))) (ins_of (get_or ns i d).kind) 0 some
+        let h = incoming e.graph.now (positions_of e) (input_of e) (uid_at e.graph.now i) in
+        let long : length xs ≡ length (incoming e.graph.now (positions_of e) (input_of e) (uid_at e.graph.now i)) * ins_of (get_or ns i d).kind + 0 =
+        (let a = ap (λ ys. length ys) are in let b = length-interleaved (ins_of (get_or ns i d).kind) (incoming e.graph.now (positions_of e) (input_of e) (uid_at e.graph.now i)) wide in omega arith) in
+        ap (λ n. n % ins_of (get_or ns i d).kind) long ∙ mod-mul-add (length (incoming e.graph.now (positions_of e) (input_of e) (uid_at e.graph.now i))) (ins_of (get_or ns i d).kind) 0 some
 
-    are_frames : frames_of (ins_of (get_or ns i d).kind) xs ≡ incoming e.graph.now (reach e.graph.now) (input_of e) (uid_at e.graph.now i)
+    are_frames : frames_of (ins_of (get_or ns i d).kind) xs ≡ incoming e.graph.now (positions_of e) (input_of e) (uid_at e.graph.now i)
     are_frames =
         ap (frames_of (ins_of (get_or ns i d).kind)) are
-        ∙ interleaved_are_frames (ins_of (get_or ns i d).kind) (incoming e.graph.now (reach e.graph.now) (input_of e) (uid_at e.graph.now i)) some
-        (All-from_recursion (λ f. length f ≡ ins_of (get_or ns i d).kind) (incoming e.graph.now (reach e.graph.now) (input_of e) (uid_at e.graph.now i)) wide)
+        ∙ interleaved_are_frames (ins_of (get_or ns i d).kind) (incoming e.graph.now (positions_of e) (input_of e) (uid_at e.graph.now i)) some
+        (All-from_recursion (λ f. length f ≡ ins_of (get_or ns i d).kind) (incoming e.graph.now (positions_of e) (input_of e) (uid_at e.graph.now i)) wide)
 
     pub within : (b : Bound) → b ≡ bounds e.graph.now (uid_at e.graph.now i) → IsWithin b.ins (frames_of (ins_of (get_or ns i d).kind) xs)
     within b is = subst (λ (v : Bound). IsWithin v.ins (frames_of (ins_of (get_or ns i d).kind) xs)) (sym is) (subst (IsWithin (bounds e.graph.now (uid_at e.graph.now i)).ins) (sym are_frames) (incoming_within e s i inside))
@@ -110,4 +109,4 @@ module _ (e : Evaluation) (s : IsEvaluation e) (i : ℕ) (inside : i < length e.
     pub at_processor : interleaved (stream_of (get_or ns i d).kind (frames_of (ins_of (get_or ns i d).kind) xs)) ≡ outgoing_at e i
     at_processor =
         ap (λ k. interleaved (stream_of (get_or ns i d).kind k)) are_frames
-        ∙ sym (ap interleaved (given_at ∙ given_processor (get_or ns i d).kind (input_of e) (incoming e.graph.now (reach e.graph.now) (input_of e) (uid_at e.graph.now i)) p.0))
+        ∙ sym (ap interleaved (given_at ∙ given_processor (get_or ns i d).kind (input_of e) (incoming e.graph.now (positions_of e) (input_of e) (uid_at e.graph.now i)) p.0))

@@ -1,5 +1,6 @@
 pub mod Interleaving
 pub mod NodeFacts
+pub mod PositionFacts
 pub mod Adding
 pub mod RouteFacts
 pub mod StreamFacts
@@ -7,4 +8,6 @@ pub mod OutgoingFacts
 pub mod SumFacts
 pub mod KindFacts
 pub mod OrderSteps
+pub mod AnswerFacts
 pub mod Examples
+pub mod TestGraphs

@@ -1,7 +1,7 @@
 -- The nodes of a sound graph, by name and by index.
 use Rattle.std.proofs.Common.{◌≡◌, ℕ, zero, suc, ◌+◌, ◌<◌, List, [], ◌∷◌, length, get_or, refl, sym, ◌∙◌, ap, subst, Bool, true, false, cond, arith, Option, Some, None, ◌==◌, inl, inr, Bor}
 use Rattle.std.specs.Prelude.{IsSome, count_by, ◌≢◌}
-use Rattle.std.specs.List.{find, AllByRecursion, position, position_or_len, slice_get}
+use Rattle.std.specs.List.{find, AllByRecursion, Contains, position, position_or_len, slice_get}
 use Rattle.std.specs.Option.{is_some, option_copied}
 use Rattle.std.proofs.lemmas.Bool.{eqb-true, false≢true, lt-ltb}
 use Rattle.std.proofs.lemmas.List.{get_or-map}
@@ -11,17 +11,20 @@ use Rattle.std.proofs.lemmas.List.Quantifiers.{position-Some}
 use Rattle.std.proofs.lemmas.List.Sums.{position_or_len_is, sum_by-cons}
 use Rattle.std.proofs.lemmas.Option.{slice_get-get_or, slice_get_cases, slice_get_within, get_or_from_slice_get}
 use Rattle.graph_model.specs.Kinds.{ins_of, outs_of, latency_of}
-use Rattle.graph_model.specs.Graphs.{or_zero, node_named, ins_at, outs_at, latency_at, is_input, input_name, name_or_zero}
+use Rattle.graph_model.specs.Graphs.{IsNode, or_zero, node_named, ins_at, outs_at, latency_at, is_input, input_name, name_or_zero}
 use Rattle.graph_model.specs.Members.{bad_member}
+use Rattle.graph_model.specs.Paths.{IsPathTo, latencies, reach, depth}
 use Rattle.graph_model.specs.Ranges.{IsInRange, HasRange}
 use Rattle.graph_model.specs.Sound.{IsSound}
 use Rattle.graph_model.proofs.PathLaws.{same_name}
 use Rattle.graph_model.proofs.RangeLaws.{in_range}
-use Rattle.graph_model.proofs.RankLaws.{nodes_exist}
+use Rattle.graph_model.proofs.RankLaws.{nodes_exist, sound_is_ranked}
+use Rattle.graph_model.proofs.ReachLaws.{reach_is_longest}
 use Rattle.graph_model.specs.declared.kind.Kind.{Kind}
 use Rattle.graph_model.specs.declared.kind.Kind.TheVariants.{Input}
 use Rattle.graph_model.specs.declared.graph.Uid.{Uid}
 use Rattle.graph_model.specs.declared.graph.Node.{Node}
+use Rattle.graph_model.specs.declared.graph.Connection.{Connection}
 use Rattle.graph_model.specs.declared.graph.Graph.{Graph}
 use Rattle.topology.specs.Named.{IsNamed, uid_at}
 
@@ -91,6 +94,10 @@ pub copied_some : (o : Option (Bor Node)) (x : Option Node) → option_copied o 
 copied_some None x e s = absurd (false≢true (ap is_some e ∙ s))
 copied_some (Some r) x e s = refl
 
+no_ins : (kind : Kind) → is_input kind ≡ true → ins_of kind ≡ 0
+no_ins (Input n) e = refl
+no_ins kind e = absurd (false≢true e)
+
 some_outs : (kind : Kind) → HasRange kind → is_input kind ≡ true → 0 < outs_of kind
 some_outs (Input n) r e = let l = r.0 in omega arith
 some_outs kind r e = absurd (false≢true e)
@@ -107,13 +114,19 @@ module _ (g : Graph) (sound : IsSound g) where
       elim (a.0 == b.0) as (λ t. (a.0 == b.0) ≡ t → t ≡ false)
       [ true ↦ λ e. absurd (ne (let same : a.0 ≡ b.0 = eqb-true _ _ e in λ i. record { 0 = same i })) | false ↦ λ e. refl ] refl
 
-  named_there : (j : ℕ) (d : Node) → j < length g.nodes → node_named g (get_or g.nodes j d).uid.0 ≡ Some (get_or g.nodes j d)
-  named_there j d lt =
-      let first : position_or_len (λ n. n.uid.0 == (get_or g.nodes j d).uid.0) g.nodes ≡ j =
+  first_there : (j : ℕ) (d : Node) → j < length g.nodes → position_or_len (λ n. n.uid.0 == (get_or g.nodes j d).uid.0) g.nodes ≡ j
+  first_there j d lt =
       position_or_len_is (λ n. n.uid.0 == (get_or g.nodes j d).uid.0) g.nodes j d (omega arith)
       (λ k l. differs (get_or g.nodes k d).uid (get_or g.nodes j d).uid (sound.shaped.uids_differ k j d l lt))
-      (λ _. same_name (get_or g.nodes j d).uid.0) in
-      find_at (λ n. n.uid.0 == (get_or g.nodes j d).uid.0) g.nodes ∙ ap (slice_get g.nodes) first ∙ slice_get-get_or g.nodes j d lt
+      (λ _. same_name (get_or g.nodes j d).uid.0)
+
+  named_there : (j : ℕ) (d : Node) → j < length g.nodes → node_named g (get_or g.nodes j d).uid.0 ≡ Some (get_or g.nodes j d)
+  named_there j d lt =
+      find_at (λ n. n.uid.0 == (get_or g.nodes j d).uid.0) g.nodes ∙ ap (slice_get g.nodes) (first_there j d lt) ∙ slice_get-get_or g.nodes j d lt
+
+  -- the first place of the name at an index is the index
+  pub first_place : (i : ℕ) (d : Node) → i < length g.nodes → position_or_len (λ n. n.uid.0 == uid_at g i) g.nodes ≡ i
+  first_place i d lt = ap (λ v. position_or_len (λ n. n.uid.0 == v) g.nodes) (get_or-map (λ (n : Node). n.uid.0) g.nodes i d 0 lt) ∙ first_there i d lt
 
   -- the node at an index is the one of its name
   pub node_is : (i : ℕ) (d : Node) → i < length g.nodes → node_named g (uid_at g i) ≡ Some (get_or g.nodes i d)
@@ -170,6 +183,37 @@ module _ (g : Graph) (sound : IsSound g) where
         | None ↦ λ e. absurd (false≢true (sym (ap is_some e) ∙ input_exists))
         | Some n ↦ λ e. let a = input_found n e in rw (sym a.0) a.1
       ] refl
+
+  -- it is a node, into which nothing comes
+  pub at_input : (IsNode g (input_name g)) × (ins_at g (input_name g) ≡ 0)
+  at_input =
+      elim (find (λ n. is_input n.kind) g.nodes) as (λ o. find (λ n. is_input n.kind) g.nodes ≡ o → IsNode g (name_or_zero o) × (ins_at g (name_or_zero o) ≡ 0)) [
+        | None ↦ λ e. absurd (false≢true (sym (ap is_some e) ∙ input_exists))
+        | Some n ↦ λ e.
+            (let there = found_named (λ n. is_input n.kind) n e in
+            let is = find-all (λ n. is_input n.kind) (λ n. bad_member n ≡ None) g.nodes n (recursion_from_All _ g.nodes sound.shaped.in_range) e in
+            (ap is_some there, ap (or_zero ins_of) there ∙ no_ins n.kind is.1))
+      ] refl
+
+  -- ---- the connections
+  pub channels_fit : (c : Connection) → Contains g.connections c → (c.src_channel < outs_at g c.src.0) × (c.dst_channel < ins_at g c.dst.0)
+  channels_fit c (k, lt, at) =
+      let is = sound.shaped.connections k c lt in
+      (subst (λ (d : Connection). d.src_channel < outs_at g d.src.0) at is.source_channel, subst (λ (d : Connection). d.dst_channel < ins_at g d.dst.0) at is.destination_channel)
+
+  -- no path leads into the input node
+  input_path : (us : List ℕ) → IsPathTo g (input_name g) us → latencies g us ≡ 0
+  input_path [] path = refl
+  input_path (u ∷ us) path =
+      let j = path.1 in
+      let fit = (channels_fit j.0 j.1).1 in
+      let none : ins_at g j.0.dst.0 ≡ 0 = ap (ins_at g) j.3 ∙ at_input.1 in
+      absurd (omega arith)
+
+  pub input_reach : reach g (input_name g) ≡ 0
+  input_reach =
+      let long = (reach_is_longest g (depth g) (sound_is_ranked g sound) (input_name g) at_input.0).reached in
+      sym long.2 ∙ input_path long.0 long.1
 
   -- the node of a name has an index
   pub index_of : (v : ℕ) (node : Node) → node_named g v ≡ Some node → (i : ℕ) × (i < length g.nodes) × (uid_at g i ≡ v) × (get_or g.nodes i node ≡ node)

@@ -7,7 +7,7 @@ use Rattle.std.proofs.lemmas.List.Elements.{All-append}
 use Rattle.graph_model.specs.Histories.{History, sample, interleaved}
 use Rattle.graph_model.specs.Kinds.{outs_of}
 use Rattle.graph_model.specs.Graphs.{node_named, is_input, input_name, ins_at, outs_at}
-use Rattle.graph_model.specs.Paths.{reach, depth}
+use Rattle.graph_model.specs.Paths.{depth}
 use Rattle.graph_model.specs.Answers.{given, given_by, incoming, outgoing, sum_into}
 use Rattle.graph_model.specs.Bounds.{bounds, out_bounds, IsBounded, IsInputFor, IsWithin}
 use Rattle.graph_model.proofs.AnswerLaws.{out-solves}
@@ -23,7 +23,7 @@ use Rattle.headroom.proofs.BoundFacts.{length-ins, outs_are}
 use Rattle.topology.specs.Named.{uid_at}
 use Rattle.topology.proofs.NameFacts.{any_node, name_is}
 use Rattle.renderer.specs.Samples.{AreUpTo}
-use Rattle.renderer.specs.Evaluations.{IsEvaluation, input_of, incoming_at}
+use Rattle.renderer.specs.Evaluations.{IsEvaluation, input_of, positions_of}
 use Rattle.renderer.specs.declared.evaluation.Evaluation.{Evaluation}
 use Rattle.renderer.proofs.Interleaving.{AreWide, wide-frames_of, get_or-interleaved}
 use Rattle.renderer.proofs.NodeFacts.{input_some, input_is, node_is, index_of, ins_is, outs_is}
@@ -109,26 +109,26 @@ module _ (e : Evaluation) (s : IsEvaluation e) where
   bounded_at i lt = subst (λ w. IsBounded (bounds e.graph.now w)) (sym (name_is e.graph.now i lt)) (s.sound.headroom i any_node lt)
 
   -- no sample that goes out, of any name, is larger than 2 ^ 46
-  pub outgoing_small : (v c k : ℕ) → unsigned_abs (sample (outgoing e.graph.now (reach e.graph.now) (input_of e) v) c k) ≤ 2 ^ 46
+  pub outgoing_small : (v c k : ℕ) → unsigned_abs (sample (outgoing e.graph.now (positions_of e) (input_of e) v) c k) ≤ 2 ^ 46
   outgoing_small v c k =
-      elim (node_named e.graph.now v) as (λ o. node_named e.graph.now v ≡ o → unsigned_abs (sample (outgoing e.graph.now (reach e.graph.now) (input_of e) v) c k) ≤ 2 ^ 46) [
+      elim (node_named e.graph.now v) as (λ o. node_named e.graph.now v ≡ o → unsigned_abs (sample (outgoing e.graph.now (positions_of e) (input_of e) v) c k) ≤ 2 ^ 46) [
         | None ↦ λ none.
-            (let nothing : outgoing e.graph.now (reach e.graph.now) (input_of e) v ≡ [] =
-            out-solves e.graph.now (reach e.graph.now) (input_of e) (depth e.graph.now) (sound_is_ranked e.graph.now s.sound) v
-            ∙ ap (λ o. given o (input_of e) (incoming e.graph.now (reach e.graph.now) (input_of e) v)) none in
+            (let nothing : outgoing e.graph.now (positions_of e) (input_of e) v ≡ [] =
+            out-solves e.graph.now (positions_of e) (input_of e) (depth e.graph.now) (sound_is_ranked e.graph.now s.sound) v
+            ∙ ap (λ o. given o (input_of e) (incoming e.graph.now (positions_of e) (input_of e) v)) none in
             subst (λ h. unsigned_abs (sample h c k) ≤ 2 ^ 46) (sym nothing) (omega arith))
         | Some node ↦ λ found.
             (let at = index_of e.graph.now s.sound v node found in
             let bounded : IsBounded (bounds e.graph.now v) = subst (λ w. IsBounded (bounds e.graph.now w)) at.2 (bounded_at at.0 at.1) in
-            let within = (samples_are_bounded e.graph.now (reach e.graph.now) (input_of e) input_for v).1 c k in
+            let within = (samples_are_bounded e.graph.now (positions_of e) (input_of e) input_for v).1 c k in
             let most = all_at (2 ^ 46) (bounds e.graph.now v).outs c bounded.1 in
             omega arith)
       ] refl
 
   -- ---- by index
   module _ (i : ℕ) (inside : i < length e.graph.now.nodes) where
-    pub incoming_within : IsWithin (bounds e.graph.now (uid_at e.graph.now i)).ins (incoming e.graph.now (reach e.graph.now) (input_of e) (uid_at e.graph.now i))
-    incoming_within = (samples_are_bounded e.graph.now (reach e.graph.now) (input_of e) input_for (uid_at e.graph.now i)).0
+    pub incoming_within : IsWithin (bounds e.graph.now (uid_at e.graph.now i)).ins (incoming e.graph.now (positions_of e) (input_of e) (uid_at e.graph.now i))
+    incoming_within = (samples_are_bounded e.graph.now (positions_of e) (input_of e) input_for (uid_at e.graph.now i)).0
 
     pub bound_is : IsBoundOf (get_or e.graph.now.nodes i any_node).kind (bounds e.graph.now (uid_at e.graph.now i))
     bound_is = record {
@@ -137,22 +137,22 @@ module _ (e : Evaluation) (s : IsEvaluation e) where
       bounded = bounded_at i inside;
     }
 
-    pub outgoing_given : outgoing e.graph.now (reach e.graph.now) (input_of e) (uid_at e.graph.now i)
-        ≡ given_by (get_or e.graph.now.nodes i any_node).kind (input_of e) (incoming e.graph.now (reach e.graph.now) (input_of e) (uid_at e.graph.now i))
+    pub outgoing_given : outgoing e.graph.now (positions_of e) (input_of e) (uid_at e.graph.now i)
+        ≡ given_by (get_or e.graph.now.nodes i any_node).kind (input_of e) (incoming e.graph.now (positions_of e) (input_of e) (uid_at e.graph.now i))
     outgoing_given =
-        out-solves e.graph.now (reach e.graph.now) (input_of e) (depth e.graph.now) (sound_is_ranked e.graph.now s.sound) (uid_at e.graph.now i)
-        ∙ ap (λ o. given o (input_of e) (incoming e.graph.now (reach e.graph.now) (input_of e) (uid_at e.graph.now i))) (node_is e.graph.now s.sound i any_node inside)
+        out-solves e.graph.now (positions_of e) (input_of e) (depth e.graph.now) (sound_is_ranked e.graph.now s.sound) (uid_at e.graph.now i)
+        ∙ ap (λ o. given o (input_of e) (incoming e.graph.now (positions_of e) (input_of e) (uid_at e.graph.now i))) (node_is e.graph.now s.sound i any_node inside)
 
-    pub wide_outgoing : AreWide (outs_at e.graph.now (uid_at e.graph.now i)) (outgoing e.graph.now (reach e.graph.now) (input_of e) (uid_at e.graph.now i))
+    pub wide_outgoing : AreWide (outs_at e.graph.now (uid_at e.graph.now i)) (outgoing e.graph.now (positions_of e) (input_of e) (uid_at e.graph.now i))
     wide_outgoing =
-        subst (λ m. AreWide m (outgoing e.graph.now (reach e.graph.now) (input_of e) (uid_at e.graph.now i))) (sym (outs_is e.graph.now s.sound i any_node inside))
+        subst (λ m. AreWide m (outgoing e.graph.now (positions_of e) (input_of e) (uid_at e.graph.now i))) (sym (outs_is e.graph.now s.sound i any_node inside))
         (subst (AreWide (outs_of (get_or e.graph.now.nodes i any_node).kind)) (sym outgoing_given)
-        (wide-given (get_or e.graph.now.nodes i any_node).kind (input_of e) (incoming e.graph.now (reach e.graph.now) (input_of e) (uid_at e.graph.now i))
+        (wide-given (get_or e.graph.now.nodes i any_node).kind (input_of e) (incoming e.graph.now (positions_of e) (input_of e) (uid_at e.graph.now i))
         (λ is. subst (λ m. AreWide m (input_of e)) (sym (input_is e.graph.now s.sound i any_node inside is)) wide_input)))
 
-    pub long_outgoing : length (outgoing e.graph.now (reach e.graph.now) (input_of e) (uid_at e.graph.now i)) ≡ e.frames
+    pub long_outgoing : length (outgoing e.graph.now (positions_of e) (input_of e) (uid_at e.graph.now i)) ≡ e.frames
     long_outgoing =
         ap length outgoing_given
-        ∙ long-given (get_or e.graph.now.nodes i any_node).kind (input_of e) (incoming e.graph.now (reach e.graph.now) (input_of e) (uid_at e.graph.now i))
-        (length-history_of (length (input_of e)) (ins_at e.graph.now (uid_at e.graph.now i)) (sum_into e.graph.now (reach e.graph.now) (outgoing e.graph.now (reach e.graph.now) (input_of e)) (uid_at e.graph.now i)))
+        ∙ long-given (get_or e.graph.now.nodes i any_node).kind (input_of e) (incoming e.graph.now (positions_of e) (input_of e) (uid_at e.graph.now i))
+        (length-history_of (length (input_of e)) (ins_at e.graph.now (uid_at e.graph.now i)) (sum_into e.graph.now (positions_of e) (outgoing e.graph.now (positions_of e) (input_of e)) (uid_at e.graph.now i)))
         ∙ long_input

@@ -1,3 +1,4 @@
 pub mod Samples
+pub mod Positions
 pub mod Routes
 pub mod Evaluations

@@ -1,7 +1,7 @@
 -- Connections by the indexes of their nodes, and what they bring.
 use Rattle.std.specs.Prelude.{◌≡◌, ◌≢◌, ℕ, ◌+◌, ◌-◌, ◌*◌, ◌<◌, nat_le, if◌then◌else◌, List, length, get_or, ℤ, pos, ◌+ℤ◌}
 use Rattle.graph_model.specs.Graphs.{ins_at, outs_at}
-use Rattle.graph_model.specs.Paths.{reach}
+use Rattle.graph_model.specs.Paths.{live_connections}
 use Rattle.graph_model.specs.Answers.{delay}
 use Rattle.graph_model.specs.declared.graph.Connection.{Connection}
 use Rattle.graph_model.specs.declared.graph.Graph.{Graph}
@@ -9,20 +9,23 @@ use Rattle.topology.specs.Named.{uid_at}
 use Rattle.renderer.specs.declared.routes.Channel.{Channel}
 use Rattle.renderer.specs.declared.routes.Route.{Route}
 
--- it follows connection c: between the same nodes and channels, where each node stands at its reach
-pub record IsRoute (g : Graph) (c : Connection) (r : Route) : Type 0 where
+-- it follows connection c: between the same nodes and channels, where each node v stands at position p v
+pub record IsRoute (g : Graph) (p : ℕ → ℕ) (c : Connection) (r : Route) : Type 0 where
   pub source : r.src < length g.nodes
   pub source_name : uid_at g r.src ≡ c.src.0
   pub destination : r.dst < length g.nodes
   pub destination_name : uid_at g r.dst ≡ c.dst.0
   pub from : r.from ≡ record { at = c.src_channel; of = outs_at g c.src.0 }
   pub to : r.to ≡ record { at = c.dst_channel; of = ins_at g c.dst.0 }
-  pub holds_back : r.delay ≡ delay g (reach g) c
+  pub holds_back : r.delay ≡ delay g p c
 
--- a route for each connection, in the graph's order
-pub record AreRoutes (g : Graph) (rs : List Route) : Type 0 where
-  pub count : length rs ≡ length g.connections
-  pub each : (k : ℕ) (c : Connection) (r : Route) → k < length rs → IsRoute g (get_or g.connections k c) (get_or rs k r)
+-- a route for each of these connections, in their order; and for each live one of a graph
+pub record AreRoutesOf (g : Graph) (p : ℕ → ℕ) (cs : List Connection) (rs : List Route) : Type 0 where
+  pub count : length rs ≡ length cs
+  pub each : (k : ℕ) (c : Connection) (r : Route) → k < length rs → IsRoute g p (get_or cs k c) (get_or rs k r)
+
+abbrev pub AreRoutes : Graph → (ℕ → ℕ) → List Route → Type 0
+AreRoutes g p rs = AreRoutesOf g p (live_connections g) rs
 
 -- the sample of a channel in frame t
 abbrev pub sample_in : List ℤ → Channel → ℕ → ℤ

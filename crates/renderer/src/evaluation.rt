@@ -1,7 +1,11 @@
-//! The streams of a graph's nodes, in the order of the nodes.
+//! The streams of a graph's live nodes, in the order of the nodes.
 
-ghost use Rattle.std.specs.Prelude.{◌≡◌, ◌%◌, ◌^◌, ◌<◌, IfOk, length};
+ghost use Rattle.std.specs.Prelude.{◌≡◌, ◌%◌, ◌^◌, ◌<◌, IfOk, length, true};
 ghost use Rattle.graph_model.specs.Graphs.{input_name, outs_at};
+ghost use Rattle.graph_model.specs.Paths.{is_live};
+ghost use Rattle.plan_model.specs.Alignments.{IsAlignment};
+ghost use Rattle.topology.specs.Named.{uid_at};
+ghost use Rattle.renderer.specs.Positions.{position_at};
 ghost use Rattle.renderer.specs.Samples.{AreUpTo};
 
 use crate::lookup::input_channels;
@@ -11,10 +15,13 @@ use connections::Checked;
 use graph_model::{Kind, List};
 use std::alloc::{AllocError, Global};
 
-/// A graph and its input, with what is looked up once: the routes of its connections and the number of frames.
+/// A graph at the positions of its nodes and its input, with what is looked up once: the routes of its live
+/// connections and the number of frames.
 #[derive(Drop)]
 pub(crate) struct Evaluation<'a> {
     graph: &'a Checked,
+    /// Where the nodes stand, by index: what the delays of the routes come from.
+    positions: &'a [u64],
     routes: Vec<Route>,
     input: &'a [i64],
     frames: usize,
@@ -23,27 +30,33 @@ pub(crate) struct Evaluation<'a> {
 impl<'a> Evaluation<'a> {
     ghost use Rattle.renderer.specs.Evaluations.{IsEvaluation, HasAll, HasSources, incoming_at, outgoing_at};
 
-    /// Whole frames of the graph's input node.
+    /// Of whole frames of the graph's input node, at positions that are an alignment of the live nodes.
     pub(crate) fn new(
         alloc: Global,
         graph: &'a Checked,
+        positions: &'a [u64],
         input: &'a [i64],
     ) -> Result<Self, AllocError>
+        requires count { length positions.now ≡ length graph.now.nodes }
+        requires alignment { IsAlignment graph.now (position_at graph.now positions.now) }
         requires whole { length input.now % outs_at graph.now (input_name graph.now) ≡ 0 }
         requires small { AreUpTo (2 ^ 31) input.now }
         requires few { length input.now < 2 ^ 40 }
         ensures state { IfOk result IsEvaluation }
-        ensures same { IfOk result (λ e. (e.graph.now ≡ graph.now) × (e.input.now ≡ input.now)) }
+        ensures graph { IfOk result (λ e. e.graph.now ≡ graph.now) }
+        ensures positions { IfOk result (λ e. e.positions.now ≡ positions.now) }
+        ensures input { IfOk result (λ e. e.input.now ≡ input.now) }
     {
         Ok(Evaluation {
             graph,
-            routes: routes(alloc, graph)?,
+            positions,
+            routes: routes(alloc, graph, positions)?,
             input,
             frames: input.len() / input_channels(graph.graph()),
         })
     }
 
-    /// What goes out of each node, by index, interleaved.
+    /// What goes out of each live node, by index, interleaved.
     pub(crate) fn streams(&self, alloc: Global) -> Result<Vec<List<i64>>, AllocError>
         requires { IsEvaluation self.now }
         ensures { IfOk result (λ v. HasAll self.now v.items) }
@@ -52,8 +65,10 @@ impl<'a> Evaluation<'a> {
         let mut streams = self.no_streams(alloc)?;
         for index in order {
             let node = *index as usize;
-            let stream = self.outgoing(alloc, &streams, node)?;
-            streams[node] = stream;
+            if self.graph.is_live(*index) {
+                let stream = self.outgoing(alloc, &streams, node)?;
+                streams[node] = stream;
+            }
         }
         Ok(streams)
     }
@@ -66,7 +81,7 @@ impl<'a> Evaluation<'a> {
         nodes.iter().map(|_| List::new(alloc)).collect(alloc)
     }
 
-    /// What goes out of a node whose sources have their streams, interleaved.
+    /// What goes out of a live node whose sources have their streams, interleaved.
     fn outgoing(
         &self,
         alloc: Global,
@@ -76,6 +91,7 @@ impl<'a> Evaluation<'a> {
         requires state { IsEvaluation self.now }
         requires count { length streams.now ≡ length self.now.graph.now.nodes }
         requires node { node < length self.now.graph.now.nodes }
+        requires live { is_live self.now.graph.now (uid_at self.now.graph.now node) ≡ true }
         requires sources { HasSources self.now streams.now node }
         ensures { IfOk result (λ v. v ≡ outgoing_at self.now node) }
     {
@@ -91,7 +107,7 @@ impl<'a> Evaluation<'a> {
         }
     }
 
-    /// What comes into a node whose sources have their streams, interleaved: in each channel the sum of what its
+    /// What comes into a live node whose sources have their streams, interleaved: in each channel the sum of what its
     /// connections bring, and silence where it has none.
     pub(crate) fn incoming(
         &self,
@@ -102,6 +118,7 @@ impl<'a> Evaluation<'a> {
         requires state { IsEvaluation self.now }
         requires count { length streams.now ≡ length self.now.graph.now.nodes }
         requires node { node < length self.now.graph.now.nodes }
+        requires live { is_live self.now.graph.now (uid_at self.now.graph.now node) ≡ true }
         requires sources { HasSources self.now streams.now node }
         ensures { IfOk result (λ v. v.items ≡ incoming_at self.now node) }
     {

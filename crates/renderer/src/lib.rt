@@ -1,24 +1,34 @@
-//! The samples that a graph makes of its input, on whole streams.
+//! The samples that a graph makes of its input, on whole streams, at any alignment of its paths.
 //!
-//! [`answer`] takes the nodes of a checked graph in their order, each standing at its reach, where the longest path into
-//! it ends. What comes into a node is, channel by channel, the sum of what its connections bring, each held back until
-//! the node; what goes out is made frame by frame by a processor of its kind. Each node's stream is one list of
-//! interleaved samples, and all are kept.
+//! [`answer_at`] takes the live nodes of a checked graph in their order, each standing at the position that an alignment
+//! gives it, and [`answer`] takes them at their reaches, where the longest paths into them end. What comes into a node
+//! is, channel by channel, the sum of what its connections bring, each held back until the node; what goes out is made
+//! frame by frame by a processor of its kind. Each live node's stream is one list of interleaved samples, and all are
+//! kept.
 //!
-//! It promises that the result is the answer of the mathematical graph, as `graph_model` defines it, sample for sample,
-//! for every sound graph. That no sum overflows is proved of the bounds that a sound graph keeps.
+//! It promises, sample for sample and for every sound graph, that at the reaches the result is the answer of the
+//! mathematical graph, as `graph_model` defines it, and at any other alignment the same answer, later by as much as the
+//! output node stands after its reach. That no sum overflows is proved of the bounds that a sound graph keeps. In `laws`
+//! it says of the definitions that positions show in no other way.
 //!
-//! It stands on `graph_model`, `topology` and `connections`, and on `processors` for the streams of the kinds.
+//! It stands on `graph_model`, `topology` and `connections`, on `plan_model` for alignments, and on `processors` for
+//! the streams of the kinds.
 #![tactic(auto)]
 
-ghost use Rattle.std.specs.Prelude.{◌≡◌, ◌%◌, ◌^◌, ◌<◌, IfOk, length};
+ghost use Rattle.std.specs.Prelude.{◌≡◌, ◌-◌, ◌%◌, ◌^◌, ◌<◌, ◌≤◌, IfOk, length, map};
 ghost use Rattle.graph_model.specs.Answers.{answer};
-ghost use Rattle.graph_model.specs.Graphs.{input_name, outs_at};
-ghost use Rattle.graph_model.specs.Histories.{frames_of, interleaved};
+ghost use Rattle.graph_model.specs.Graphs.{input_name, ins_at, output_name, outs_at};
+ghost use Rattle.graph_model.specs.Histories.{frames_of, interleaved, shifted};
+ghost use Rattle.graph_model.specs.Paths.{latency_of_graph};
+ghost use Rattle.plan_model.specs.Alignments.{IsAlignment, position_in};
+ghost use Rattle.plan_model.specs.Certified.{AreLiveNodes};
+ghost use Rattle.renderer.specs.Positions.{position_at};
 ghost use Rattle.renderer.specs.Samples.{AreUpTo};
 
 mod evaluation;
+pub mod laws;
 mod lookup;
+mod positions;
 mod routes;
 mod streams;
 #[cfg(test)]
@@ -26,8 +36,10 @@ mod tests;
 
 use crate::evaluation::Evaluation;
 use crate::lookup::output_index;
+use crate::positions::{aligned, reaches};
 use connections::Checked;
 use graph_model::List;
+use plan_model::At;
 use std::alloc::{AllocError, Global};
 
 /// The graph's answer to an input: as many frames as came in.
@@ -41,7 +53,47 @@ pub fn answer(alloc: Global, graph: &Checked, input: &[i64]) -> Result<List<i64>
     requires few { length input.now < 2 ^ 40 }
     ensures { IfOk result (λ v. v ≡ interleaved (answer graph.now (frames_of (outs_at graph.now (input_name graph.now)) input.now))) }
 {
-    let evaluation = Evaluation::new(alloc, graph, input)?;
+    let positions = reaches(alloc, graph)?;
+    rendered(alloc, graph, &positions, input)
+}
+
+/// The graph's answer to an input, where each live node stands at the position that an alignment gives it: as many
+/// frames as came in, the first of them silent for as long as the output node stands after its reach.
+///
+/// The input and the answer are interleaved as those of [`answer`].
+pub fn answer_at(
+    alloc: Global,
+    graph: &Checked,
+    at: &List<At>,
+    input: &[i64],
+) -> Result<List<i64>, AllocError>
+    requires whole { length input.now % outs_at graph.now (input_name graph.now) ≡ 0 }
+    requires small { AreUpTo (2 ^ 31) input.now }
+    requires few { length input.now < 2 ^ 40 }
+    requires nodes { AreLiveNodes graph.now (map (λ a. a.uid.0) at.now) }
+    requires alignment { IsAlignment graph.now (position_in at.now) }
+    requires near { position_in at.now (output_name graph.now) ≤ 2 ^ 26 }
+    ensures { IfOk result (λ v. v ≡ interleaved (shifted (position_in at.now (output_name graph.now) - latency_of_graph graph.now) (ins_at graph.now (output_name graph.now)) (answer graph.now (frames_of (outs_at graph.now (input_name graph.now)) input.now)))) }
+{
+    let positions = aligned(alloc, graph, at.as_slice())?;
+    rendered(alloc, graph, &positions, input)
+}
+
+/// The answer at the positions of the nodes, by index.
+fn rendered(
+    alloc: Global,
+    graph: &Checked,
+    positions: &[u64],
+    input: &[i64],
+) -> Result<List<i64>, AllocError>
+    requires whole { length input.now % outs_at graph.now (input_name graph.now) ≡ 0 }
+    requires small { AreUpTo (2 ^ 31) input.now }
+    requires few { length input.now < 2 ^ 40 }
+    requires count { length positions.now ≡ length graph.now.nodes }
+    requires alignment { IsAlignment graph.now (position_at graph.now positions.now) }
+    ensures { IfOk result (λ v. v ≡ interleaved (shifted (position_at graph.now positions.now (output_name graph.now) - latency_of_graph graph.now) (ins_at graph.now (output_name graph.now)) (answer graph.now (frames_of (outs_at graph.now (input_name graph.now)) input.now)))) }
+{
+    let evaluation = Evaluation::new(alloc, graph, positions, input)?;
     let streams = evaluation.streams(alloc)?;
     let output = evaluation.incoming(alloc, &streams, output_index(graph.graph()))?;
     List::from_slice(alloc, &output)

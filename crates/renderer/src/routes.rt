@@ -2,6 +2,9 @@
 
 ghost use Rattle.std.specs.Prelude.{◌≡◌, ◌*◌, ◌^◌, ◌<◌, IfOk, length};
 ghost use Rattle.std.specs.List.{Contains};
+ghost use Rattle.graph_model.specs.Paths.{is_live, live_connections};
+ghost use Rattle.plan_model.specs.Alignments.{IsAlignment};
+ghost use Rattle.renderer.specs.Positions.{position_at};
 ghost use Rattle.renderer.specs.Routes.{IsRoute, AreRoutes, IsAdded};
 ghost use Rattle.renderer.specs.Samples.{AreUpTo};
 
@@ -50,18 +53,29 @@ impl Route {
     }
 }
 
-/// The route of a connection, where each node stands at its reach.
-fn route_of(checked: &Checked, connection: &Connection) -> Route
+/// Whether a connection leads to a live node.
+fn leads_on(checked: &Checked, connection: &Connection) -> bool
     requires { Contains checked.now.connections connection.now }
-    ensures { IsRoute checked.now connection.now result }
+    ensures { result ≡ is_live checked.now connection.now.dst.0 }
+{
+    let dst = place_of(checked.graph(), connection.dst).unwrap();
+    checked.is_live(dst as u32)
+}
+
+/// The route of a live connection, where each node stands at its position.
+fn route_of(checked: &Checked, positions: &[u64], connection: &Connection) -> Route
+    requires live { Contains (live_connections checked.now) connection.now }
+    requires count { length positions.now ≡ length checked.now.nodes }
+    requires alignment { IsAlignment checked.now (position_at checked.now positions.now) }
+    ensures { IsRoute checked.now (position_at checked.now positions.now) connection.now result }
 {
     let graph = checked.graph();
     let src = place_of(graph, connection.src).unwrap();
     let dst = place_of(graph, connection.dst).unwrap();
     let source = &graph.nodes.as_slice()[src];
     let destination = &graph.nodes.as_slice()[dst];
-    let ready = checked.reach(dst as u32);
-    let early = checked.reach(src as u32) + latency(&source.kind) as u64;
+    let ready = positions[dst];
+    let early = positions[src] + latency(&source.kind) as u64;
     Route {
         src,
         from: Channel {
@@ -77,13 +91,21 @@ fn route_of(checked: &Checked, connection: &Connection) -> Route
     }
 }
 
-/// The routes of a graph's connections, in their order.
-pub(crate) fn routes(alloc: Global, checked: &Checked) -> Result<Vec<Route>, AllocError>
-    ensures { IfOk result (λ v. AreRoutes checked.now v.items) }
+/// The routes of a graph's live connections, in their order.
+pub(crate) fn routes(
+    alloc: Global,
+    checked: &Checked,
+    positions: &[u64],
+) -> Result<Vec<Route>, AllocError>
+    requires count { length positions.now ≡ length checked.now.nodes }
+    requires alignment { IsAlignment checked.now (position_at checked.now positions.now) }
+    ensures { IfOk result (λ v. AreRoutes checked.now (position_at checked.now positions.now) v.items) }
 {
     let mut routes = Vec::new(alloc);
     for connection in checked.graph().connections.as_slice() {
-        routes.push(route_of(checked, connection))?;
+        if leads_on(checked, connection) {
+            routes.push(route_of(checked, positions, connection))?;
+        }
     }
     Ok(routes)
 }

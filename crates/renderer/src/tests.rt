@@ -1,11 +1,16 @@
-ghost use Rattle.std.specs.Prelude.{◌≡◌, ◌^◌, ◌<◌, ◌≤◌, IfOk, length};
+ghost use Rattle.std.specs.Prelude.{◌≡◌, ◌∷◌, [], ◌++◌, ◌^◌, ◌<◌, ◌≤◌, IfOk, length, map};
+ghost use Rattle.graph_model.specs.Graphs.{output_name};
 ghost use Rattle.graph_model.specs.Sound.{Fits};
+ghost use Rattle.graph_model.specs.declared.kind.Kind.TheVariants.{Gain};
+ghost use Rattle.plan_model.specs.Alignments.{IsAlignment, position_in};
+ghost use Rattle.plan_model.specs.Certified.{AreLiveNodes};
 ghost use Rattle.renderer.specs.Samples.{AreUpTo};
 
-use crate::answer;
 use crate::lookup::input_channels;
+use crate::{answer, answer_at};
 use connections::check;
 use graph_model::{Connection, Graph, Kind, List, Node, Uid};
+use plan_model::At;
 use std::alloc::{AllocError, Global};
 use std::process::Abort;
 use std::test::Fail;
@@ -39,7 +44,9 @@ fn rendered(
     Ok(answer(alloc, &checked, input.as_slice())?)
 }
 
-fn joined(src: u32, src_channel: u32, dst: u32, dst_channel: u32) -> Connection {
+fn joined(src: u32, src_channel: u32, dst: u32, dst_channel: u32) -> Connection
+    ensures { result ≡ record { src = record { 0 = src }; src_channel = src_channel; dst = record { 0 = dst }; dst_channel = dst_channel } }
+{
     Connection {
         src: Uid(src),
         src_channel,
@@ -76,8 +83,78 @@ fn graph_of(
 }
 
 /// A gain of one channel, in units of 2^-16.
-fn gain(gain: i32) -> Kind {
+fn gain(gain: i32) -> Kind
+    ensures { result ≡ Gain 1 gain }
+{
     Kind::Gain { channels: 1, gain }
+}
+
+/// The nodes with one more.
+fn with(mut nodes: List<Node>, uid: u32, kind: Kind) -> Result<List<Node>, AllocError>
+    ensures { IfOk result (λ more. more ≡ nodes ++ record { uid = record { 0 = uid }; kind = kind } ∷ []) }
+{
+    nodes.push(Node {
+        uid: Uid(uid),
+        kind,
+    })?;
+    Ok(nodes)
+}
+
+fn stands(uid: u32, at: u64) -> At
+    ensures { result ≡ record { uid = record { 0 = uid }; at = at } }
+{
+    At { uid: Uid(uid), at }
+}
+
+/// An insert of 5 into one channel of the output, beside a gain of one into three, with an alignment that has the
+/// output node at `late` and the others as early as they can be.
+fn fan_out(alloc: Global, late: u64) -> Result<(Graph, List<At>), AllocError>
+    requires after { 5 ≤ late }
+    requires near { late ≤ 2 ^ 26 }
+    ensures fits { IfOk result (λ r. Fits r.0) }
+    ensures nodes { IfOk result (λ r. AreLiveNodes r.0 (map (λ a. a.uid.0) r.1)) }
+    ensures alignment { IfOk result (λ r. IsAlignment r.0 (position_in r.1)) }
+    ensures output { IfOk result (λ r. position_in r.1 (output_name r.0) ≤ 2 ^ 26) }
+{
+    let insert = Kind::Insert {
+        channels: 1,
+        samples: 5,
+    };
+    let one = with(List::new(alloc), 1, Kind::Input { channels: 1 })?;
+    let two = with(one, 2, Kind::Output { channels: 3 })?;
+    let three = with(two, 3, insert)?;
+    let nodes = with(three, 4, gain(65536))?;
+    let connections = [
+        joined(1, 0, 3, 0),
+        joined(3, 0, 2, 0),
+        joined(1, 0, 4, 0),
+        joined(4, 0, 2, 0),
+        joined(4, 0, 2, 1),
+        joined(4, 0, 2, 2),
+    ];
+    let connections = List::from_slice(alloc, &connections)?;
+    let at = [stands(1, 0), stands(2, late), stands(3, 0), stands(4, 0)];
+    let at = List::from_slice(alloc, &at)?;
+    Ok((Graph { nodes, connections }, at))
+}
+
+/// Its answer at that alignment.
+fn rendered_at(
+    rt: &impl Abort,
+    alloc: Global,
+    late: u64,
+    samples: &[i16],
+) -> Result<List<i64>, Fail>
+    requires after { 5 ≤ late }
+    requires near { late ≤ 2 ^ 26 }
+    requires few { length samples.now < 2 ^ 40 }
+{
+    let (graph, at) = fan_out(alloc, late)?;
+    let input = scaled_up(alloc, samples)?;
+    let checked = check(alloc, graph)?;
+    let left = input.len() % input_channels(checked.graph());
+    assert_eq!(rt; left, 0);
+    Ok(answer_at(alloc, &checked, &at, input.as_slice())?)
 }
 
 #[test]
@@ -174,5 +251,34 @@ fn a_limiter_holds_its_threshold(rt: HostRuntime) -> Result<(), Fail> {
     let graph = graph_of(rt.alloc(), 1, 1, limiter, &way)?;
     let output = rendered(&rt, rt.alloc(), graph, &[200, 50])?;
     assert_eq!(rt; output.as_slice(), [0, 6553600].as_slice());
+    Ok(())
+}
+
+#[test]
+fn the_gain_waits_for_the_insert_beside_it(rt: HostRuntime) -> Result<(), Fail> {
+    let output = rendered_at(&rt, rt.alloc(), 5, &[1000, 0, 0, 0, 0, 0])?;
+    let wanted = [
+        0, 0, 0, 0, 0, 0, 0, 0, 0, 0, 0, 0, 0, 0, 0, 131072000, 65536000, 65536000,
+    ];
+    assert_eq!(rt; output.as_slice(), wanted.as_slice());
+    Ok(())
+}
+
+#[test]
+fn a_later_output_gives_the_same_later(rt: HostRuntime) -> Result<(), Fail> {
+    let output = rendered_at(&rt, rt.alloc(), 6, &[1000, 0, 0, 0, 0, 0, 0])?;
+    let wanted = [
+        0, 0, 0, 0, 0, 0, 0, 0, 0, 0, 0, 0, 0, 0, 0, 0, 0, 0, 131072000, 65536000, 65536000,
+    ];
+    assert_eq!(rt; output.as_slice(), wanted.as_slice());
+    Ok(())
+}
+
+#[test]
+fn a_gain_that_leads_nowhere_changes_nothing(rt: HostRuntime) -> Result<(), Fail> {
+    let ways = [joined(1, 0, 3, 0), joined(1, 0, 2, 0)];
+    let graph = graph_of(rt.alloc(), 1, 1, gain(131072), &ways)?;
+    let output = rendered(&rt, rt.alloc(), graph, &[100, -3])?;
+    assert_eq!(rt; output.as_slice(), [6553600, -196608].as_slice());
     Ok(())
 }

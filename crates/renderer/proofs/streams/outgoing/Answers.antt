@@ -1,10 +1,9 @@
-use Rattle.std.proofs.Common.{◌≡◌, ℕ, suc, ◌+◌, ◌-◌, ◌*◌, ◌/◌, ◌<◌, ◌∷◌, ◌++◌, length, take, drop, List, ℤ, sym, ◌∙◌, ap, subst, arith}
+use Rattle.std.proofs.Common.{◌≡◌, suc, ◌+◌, ◌-◌, ◌*◌, ◌/◌, ◌<◌, ◌∷◌, ◌++◌, length, take, drop, sym, ◌∙◌, ap, subst, arith}
 use Rattle.std.proofs.lemmas.List.{with_items_is}
 use Rattle.graph_model.specs.Histories.{Frame, History, before, frame_in, interleaved, newest}
-use Rattle.graph_model.specs.Kinds.{ins_of, outs_of, stream_of}
+use Rattle.graph_model.specs.Kinds.{ins_of, stream_of}
 use Rattle.graph_model.specs.declared.graph.Bound.{Bound}
-use Rattle.graph_model.specs.declared.kind.Kind.{Kind}
-use Rattle.fixed_kernels.specs.Kernels.{IsFrameWithin, KernelState, Stands}
+use Rattle.fixed_kernels.specs.Kernels.{IsFrameWithin, Stands}
 use Rattle.renderer.proofs.StreamFacts.{frame_is, frame_within}
 use Rattle.renderer.proofs.streams.outgoing.Goals as goal
 

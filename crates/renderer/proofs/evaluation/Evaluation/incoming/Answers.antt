@@ -2,6 +2,7 @@ use Rattle.std.proofs.Common.{◌≡◌, ◌≤◌, ◌*◌, ◌+◌, ◌^◌, g
 use Rattle.std.proofs.lemmas.List.{with_items_is}
 use Rattle.graph_model.specs.Kinds.{ins_of}
 use Rattle.graph_model.specs.Graphs.{ins_at}
+use Rattle.graph_model.specs.Paths.{live_connections}
 use Rattle.graph_model.specs.declared.graph.Node.{Node}
 use Rattle.graph_model.specs.declared.graph.Graph.{Graph}
 use Rattle.topology.specs.Named.{uid_at}
@@ -91,6 +92,6 @@ loop-route-preserved c =
 
 pub returns : goal.returns
 returns c =
-    let past : length c.args.self.now.graph.now.connections ≤ c.loop-route.route-index =
+    let past : length (live_connections c.args.self.now.graph.now) ≤ c.loop-route.route-index =
     (let same = ap (λ rs. length rs) c.deref-route-items.ensures.value in let n = c.requires.state.routes.count in let end = c.loop-route-test.false in omega arith) in
-    sums_all c.args.self.now c.requires.state c.args.node c.requires.node c.loop-route.route-index c.loop-route.sums.items past c.loop-route.invariant
+    sums_all c.args.self.now c.requires.state c.args.node c.requires.node c.requires.live c.loop-route.route-index c.loop-route.sums.items past c.loop-route.invariant

@@ -1,0 +1,12 @@
+pub mod PlaceLists
+pub mod StepFacts
+pub mod ArcFacts
+pub mod ValueFacts
+pub mod PointFacts
+pub mod LinkFacts
+pub mod NetworkArcs
+pub mod FlowFacts
+pub mod NeedFacts
+pub mod NetworkFacts
+pub mod AlignFacts
+pub mod PlaceFacts

@@ -1,0 +1,162 @@
+-- Live nodes of a sound graph, and values of its points that keep the differences of its network.
+use Rattle.std.proofs.Common.{◌≡◌, ℕ, ◌+◌, ◌≤◌, ℤ, pos, ◌+ℤ◌, ◌-ℤ◌, neg_ℤ, ◌≤ℤ◌, List, [], ◌∷◌, map, get_or, refl, sym, ap, ◌∙◌, arith, cond, true, None, inl, inr}
+use Rattle.std.specs.List.{Contains}
+use Rattle.std.proofs.lemmas.Int.{ints}
+use Rattle.std.proofs.lemmas.List.Elements.{All-contains, All-map, All-weaker, All-from_recursion, Contains-get_or, Contains-append_left, Contains-append_right}
+use Rattle.graph_model.specs.Graphs.{latency_at, input_name, output_name}
+use Rattle.graph_model.specs.Paths.{IsPathTo, IsLive, is_live, live_nodes, live_connections, depth, latency_of_graph}
+use Rattle.graph_model.specs.Sound.{IsSound}
+use Rattle.graph_model.specs.Members.{bad_member}
+use Rattle.graph_model.proofs.PathLaws.{live_by_test, live_by_paths, live_source, first_or_later}
+use Rattle.graph_model.proofs.RangeLaws.{in_range}
+use Rattle.graph_model.proofs.RankLaws.{all_in, sound_is_ranked}
+use Rattle.graph_model.proofs.ReachLaws.{filter_has, filter_from}
+use Rattle.graph_model.specs.declared.graph.Node.{Node}
+use Rattle.graph_model.specs.declared.graph.Connection.{Connection}
+use Rattle.graph_model.specs.declared.graph.Graph.{Graph}
+use Rattle.plan_model.specs.Alignments.{IsAlignment}
+use Rattle.plan_model.specs.Duality.{rooted}
+use Rattle.plan_model.specs.Flows.{Difference, IsPoint, along, from_root, to_root, network}
+use Rattle.plan_model.proofs.DualityLaws.{rooted_at, output_is_live, output_is_node}
+use Rattle.plan_model.proofs.Saved.{Contains-map}
+use Rattle.plan_model.proofs.ShiftLaws.{reach_least}
+
+-- ---- live nodes of a sound graph
+module _ (g : Graph) (sound : IsSound g) where
+  -- a live node is one of the nodes
+  live_is_node : (v : ℕ) → IsLive g v → Contains (map (λ n. n.uid.0) g.nodes) v
+  live_is_node v (us, path, has) =
+      All-contains (Contains (map (λ n. n.uid.0) g.nodes)) (output_name g ∷ us) v (All-from_recursion (Contains (map (λ n. n.uid.0) g.nodes)) (output_name g ∷ us) (all_in g (output_name g) us path)) has
+
+  -- its name is not 0
+  pub live_is_named : (v : ℕ) → IsLive g v → 1 ≤ v
+  live_is_named v live =
+      All-contains (λ u. 1 ≤ u) (map (λ n. n.uid.0) g.nodes) v
+      (All-map (λ u. 1 ≤ u) (λ (n : Node). n.uid.0) g.nodes (All-weaker (λ n. bad_member n ≡ None) (λ n. 1 ≤ n.uid.0) (λ n e. (in_range n e).0.0) g.nodes sound.shaped.in_range))
+      (live_is_node v live)
+
+  -- the test finds it live
+  pub live_test : (v : ℕ) → IsLive g v → is_live g v ≡ true
+  live_test v live = live_by_test g (depth g) (sound_is_ranked g sound) v live
+
+  -- and what it finds live is live
+  is_live_by : (v : ℕ) → is_live g v ≡ true → IsLive g v
+  is_live_by v is = live_by_paths g (depth g) (sound_is_ranked g sound) (output_is_node g sound) v is
+
+  -- the output node is live
+  pub output_live : IsLive g (output_name g)
+  output_live = is_live_by (output_name g) (output_is_live g (depth g) sound (sound_is_ranked g sound))
+
+  -- both ends of a live connection are live
+  pub ends_live : (c : Connection) → Contains (live_connections g) c → IsLive g c.src.0 × IsLive g c.dst.0
+  ends_live c has =
+      let kept = filter_from (λ d. is_live g d.dst.0) g.connections c has in
+      (is_live_by c.src.0 (live_source g (depth g) (sound_is_ranked g sound) c kept.0 kept.1), is_live_by c.dst.0 kept.1)
+
+  -- what does not fall along live connections is at most its value at the end of a path
+  highest_last : (f : ℕ → ℤ) → ((c : Connection) → Contains (live_connections g) c → f c.src.0 ≤ℤ f c.dst.0)
+      → (v : ℕ) (us : List ℕ) → IsPathTo g v us → is_live g v ≡ true → (w : ℕ) → Contains (v ∷ us) w → f w ≤ℤ f v
+  highest_last f rises v [] path is w has =
+      elim (first_or_later v w [] has) [ inl same ↦ (let e = ap f same in omega (arith, ints)) | inr there ↦ (let l = there.1 in absurd (omega arith)) ]
+  highest_last f rises v (u ∷ us) path is w has =
+      let j = path.1 in
+      let dst : is_live g j.0.dst.0 ≡ true = ap (is_live g) j.3 ∙ is in
+      let src : is_live g u ≡ true = ap (is_live g) (sym j.2) ∙ live_source g (depth g) (sound_is_ranked g sound) j.0 j.1 dst in
+      let step = rises j.0 (filter_has (λ c. is_live g c.dst.0) g.connections j.0 j.1 dst) in
+      let s = ap f j.2 in
+      let t = ap f j.3 in
+      elim (first_or_later v w (u ∷ us) has) [
+        | inl same ↦ (let e = ap f same in omega (arith, ints))
+        | inr there ↦ (let l = highest_last f rises u us path.2 src w there in omega (arith, ints))
+      ]
+
+  -- ---- what the network has
+  -- the arc along a live connection
+  pub along_there : (c : Connection) → Contains (live_connections g) c → Contains (network g (latency_of_graph g)) (along g c)
+  along_there c has = Contains-append_left (map (along g) (live_connections g)) _ (along g c) (Contains-map (along g) (live_connections g) c has)
+
+  -- that from the root to a live node
+  pub from_root_there : (v : ℕ) → IsLive g v → Contains (network g (latency_of_graph g)) (from_root v)
+  from_root_there v live =
+      Contains-append_right (map (along g) (live_connections g)) _ (from_root v)
+      (Contains-append_left (map from_root (live_nodes g)) _ (from_root v)
+      (Contains-map from_root (live_nodes g) v (filter_has (is_live g) (map (λ n. n.uid.0) g.nodes) v (live_is_node v live) (live_test v live))))
+
+  -- those to the root, from a live input node and from the output node
+  to_root_there : (d : Difference) → Contains (to_root g (latency_of_graph g)) d → Contains (network g (latency_of_graph g)) d
+  to_root_there d has = Contains-append_right (map (along g) (live_connections g)) _ d (Contains-append_right (map from_root (live_nodes g)) _ d has)
+
+  pub input_there : IsLive g (input_name g) → Contains (network g (latency_of_graph g)) (record { tail = input_name g; head = 0; least = pos 0 })
+  input_there live =
+      to_root_there (record { tail = input_name g; head = 0; least = pos 0 })
+      (Contains-append_left (cond (is_live g (input_name g)) (record { tail = input_name g; head = 0; least = pos 0 } ∷ []) []) _ (record { tail = input_name g; head = 0; least = pos 0 })
+      (rw (live_test (input_name g) live) (0, omega arith, refl)))
+
+  pub output_there : Contains (network g (latency_of_graph g)) (record { tail = output_name g; head = 0; least = neg_ℤ (pos (latency_of_graph g)) })
+  output_there =
+      to_root_there (record { tail = output_name g; head = 0; least = neg_ℤ (pos (latency_of_graph g)) })
+      (Contains-append_right (cond (is_live g (input_name g)) (record { tail = input_name g; head = 0; least = pos 0 } ∷ []) []) _
+      (record { tail = output_name g; head = 0; least = neg_ℤ (pos (latency_of_graph g)) }) (0, omega arith, refl))
+
+-- ---- values that keep the differences
+module _ (g : Graph) (sound : IsSound g) (value : ℕ → ℤ) (root : value 0 ≡ pos 0)
+    (rises : (d : Difference) → Contains (network g (latency_of_graph g)) d → d.least ≤ℤ (value d.head -ℤ value d.tail)) where
+  -- along a live connection they rise by the latency of its source
+  pub value_after : (c : Connection) → Contains (live_connections g) c → (value c.src.0 +ℤ pos (latency_at g c.src.0)) ≤ℤ value c.dst.0
+  value_after c has = let r = rises (along g c) (along_there g sound c has) in omega (arith, ints)
+
+  -- at the output node they are at most the latency
+  value_of_output : value (output_name g) ≤ℤ pos (latency_of_graph g)
+  value_of_output =
+      let r = rises (record { tail = output_name g; head = 0; least = neg_ℤ (pos (latency_of_graph g)) }) (output_there g sound) in
+      let z = root in
+      omega (arith, ints)
+
+  -- at a live node they are from 0 to the latency
+  pub live_within : (v : ℕ) → IsLive g v → (pos 0 ≤ℤ value v) × (value v ≤ℤ pos (latency_of_graph g))
+  live_within v live =
+      let r = rises (from_root v) (from_root_there g sound v live) in
+      let z = root in
+      let top = highest_last g sound value (λ c has. let a = value_after c has in omega (arith, ints)) (output_name g) live.0 live.1 (live_test g sound (output_name g) (output_live g sound)) v live.2 in
+      let end = value_of_output in
+      (omega (arith, ints), omega (arith, ints))
+
+  -- and so at a point
+  pub point_within : (v : ℕ) → IsPoint g v → (pos 0 ≤ℤ value v) × (value v ≤ℤ pos (latency_of_graph g))
+  point_within v (inl same) = let z = ap value same ∙ root in (omega (arith, ints), omega (arith, ints))
+  point_within v (inr live) = live_within v live
+
+  -- ---- positions that are the values
+  module _ (p : ℕ → ℕ) (is : (v : ℕ) → IsLive g v → pos (p v) ≡ value v) where
+    -- the position of a point is its value
+    pub rooted_is : (v : ℕ) → IsPoint g v → pos (rooted p v) ≡ value v
+    rooted_is v (inl same) = ap (λ u. pos (rooted p u)) same ∙ sym root ∙ ap value (sym same)
+    rooted_is v (inr live) = ap pos (rooted_at p v (live_is_named g sound v live)) ∙ is v live
+
+    -- a destination stands no earlier than its source and the latency of that
+    position_after : (c : Connection) → Contains (live_connections g) c → p c.src.0 + latency_at g c.src.0 ≤ p c.dst.0
+    position_after c has =
+        let ends = ends_live g sound c has in
+        let s = is c.src.0 ends.0 in
+        let t = is c.dst.0 ends.1 in
+        let a = value_after c has in
+        omega (arith, ints)
+
+    -- they are an alignment
+    pub is_alignment : IsAlignment g p
+    is_alignment = record {
+      input = λ live.
+          let r = rises (record { tail = input_name g; head = 0; least = pos 0 }) (input_there g sound live) in
+          let z = root in
+          let e = is (input_name g) live in
+          omega (arith, ints);
+      after = λ k d lt. position_after (get_or (live_connections g) k d) (Contains-get_or (live_connections g) k d lt);
+    }
+
+    -- whose latency is the graph's
+    pub ends_at_latency : p (output_name g) ≡ latency_of_graph g
+    ends_at_latency =
+        let e = is (output_name g) (output_live g sound) in
+        let l = value_of_output in
+        let r = reach_least g (depth g) sound (sound_is_ranked g sound) p is_alignment (output_name g) (live_test g sound (output_name g) (output_live g sound)) in
+        omega (arith, ints)

@@ -1,0 +1,16 @@
+use Rattle.std.proofs.Common.{◌≡◌, ◌∙◌, ◌+◌, ◌-◌, sym, pos}
+use Rattle.shortest_paths.specs.Walks.{number_of}
+use Rattle.alignment.specs.Places.{line_of}
+use Rattle.alignment.proofs.StepFacts.{in_frames}
+use Rattle.alignment.proofs.placed.line.Goals as goal
+
+pub returns : goal.returns
+returns c =
+    let link = c.args.link.now in
+    let early = number_of c.args.potentials.now link.tail in
+    let ready = number_of c.args.potentials.now link.head in
+    let timely = c.requires.timely in
+    let between = in_frames early ready link.latency (c.requires.positions link.tail (pos 0) timely.tail).0 (c.requires.positions link.head (pos 0) timely.head).0 timely.after in
+    let is : c.position-ready.result - (c.position.result + link.latency) ≡ (line_of c.args.potentials.now link).delay
+    = (λ i. c.position-ready.ensures.at i - (c.position.ensures.at i + link.latency)) ∙ sym between.1 in
+    λ i. record { connection = link.connection; delay = is i }

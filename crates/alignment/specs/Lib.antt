@@ -1,0 +1,4 @@
+pub mod Networks
+pub mod Links
+pub mod Places
+pub mod Carried
