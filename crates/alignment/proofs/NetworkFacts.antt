@@ -3,17 +3,17 @@ use Rattle.std.proofs.Common.{◌≡◌, ◌≢◌, ℕ, zero, suc, ◌+◌, ◌
 use Rattle.std.specs.Prelude.{sum_by, count_by, AllPairs, is_some}
 use Rattle.std.specs.List.{All, AllByRecursion, Contains, find}
 use Rattle.std.specs.List.Sorted.{IsStrictlyIncreasing}
-use Rattle.std.proofs.lemmas.Bool.{cases_lt, eqb-true, false≢true}
+use Rattle.std.proofs.lemmas.Bool.{eqb-true, false≢true}
 use Rattle.std.proofs.lemmas.Int.{ints}
-use Rattle.std.proofs.lemmas.List.{get_or_default, length-map}
-use Rattle.std.proofs.lemmas.List.Elements.{All-contains, All-contains_itself, All-from_recursion, All-map, All-same, Contains-append_left, Contains-append_right, Contains-get_or, recursion_from_All}
+use Rattle.std.proofs.lemmas.List.{length-map}
+use Rattle.std.proofs.lemmas.List.Elements.{All-contains, All-from_recursion, All-map, All-same, Contains-get_or, recursion_from_All}
 use Rattle.std.proofs.lemmas.List.Kept.{AllPairs-from_increasing}
 use Rattle.std.proofs.lemmas.List.Sums.{count_by-le-length, length-filter, sum_by-cons}
 use Rattle.std.proofs.lemmas.Option.{get_or_from_slice_get, slice_get_within}
 use Rattle.graph_model.specs.Graphs.{IsJoined, IsNode, ins_at, input_name, is_input, latency_at, name_or_zero, node_named, or_zero, output_name}
 use Rattle.graph_model.specs.Kinds.{ins_of, latency_of}
 use Rattle.graph_model.specs.Members.{bad_member}
-use Rattle.graph_model.specs.Paths.{IsPathTo, depth, is_live, latencies, latency_of_graph, live_connections, live_nodes, reach}
+use Rattle.graph_model.specs.Paths.{IsLive, IsPathTo, depth, is_live, latencies, latency_of_graph, live_connections, live_nodes, reach}
 use Rattle.graph_model.specs.Ranges.{HasRange, IsInRange}
 use Rattle.graph_model.specs.Sound.{IsSound}
 use Rattle.graph_model.specs.declared.graph.Connection.{Connection}
@@ -23,9 +23,9 @@ use Rattle.graph_model.specs.declared.graph.Uid.{Uid}
 use Rattle.graph_model.specs.declared.kind.Kind.{Kind}
 use Rattle.graph_model.specs.declared.kind.Kind.TheVariants.{Input, Output, Gain, Mixer, Fir, Biquad, Limiter, Delay, Insert}
 use Rattle.graph_model.proofs.HistoryLaws.{all_of}
-use Rattle.graph_model.proofs.PathLaws.{first_or_later, live_by_paths, live_by_test, live_source, same_name}
+use Rattle.graph_model.proofs.PathLaws.{first_or_later, live_by_paths, live_source, same_name}
 use Rattle.graph_model.proofs.RangeLaws.{in_range}
-use Rattle.graph_model.proofs.RankLaws.{all_in, sound_is_ranked}
+use Rattle.graph_model.proofs.RankLaws.{sound_is_ranked}
 use Rattle.graph_model.proofs.ReachLaws.{filter_from, filter_has, reach_after, reach_is_longest}
 use Rattle.min_cost_flow.specs.Flow.{IsNetwork, HasNoPositiveCycle, length_of, total_of}
 use Rattle.min_cost_flow.specs.declared.network.Arc.{Arc}
@@ -36,25 +36,18 @@ use Rattle.shortest_paths.specs.declared.edges.Edge.{Edge}
 use Rattle.shortest_paths.proofs.WalkLemmas.{IsWalk-append}
 use Rattle.plan_model.specs.Alignments.{IsAlignment}
 use Rattle.plan_model.specs.Duality.{rooted}
-use Rattle.plan_model.specs.Flows.{Difference, IsPoint, along, from_root, need_of_point, network, to_root}
+use Rattle.plan_model.specs.Flows.{Difference, IsPoint, along, from_root, need_of_point, network}
 use Rattle.plan_model.proofs.Below.{count_by-le_one, count_by_at}
 use Rattle.plan_model.proofs.DualityLaws.{Keeps, all_append, all_map, all_weaker, found_in, keeps_all, live_ends, output_is_live, output_is_node}
 use Rattle.plan_model.proofs.LatencyLaws.{few_frames_late}
 use Rattle.plan_model.proofs.Saved.{Contains-from_map, Contains-map}
 use Rattle.plan_model.proofs.SumLaws.{sum_none, sum_same}
-use Rattle.alignment.specs.Networks.{ArePoints, IsNetworkOf, named}
+use Rattle.alignment.specs.Networks.{ArePoints, IsNetworkOf, named, number_in}
+use Rattle.alignment.proofs.ArcFacts.{find_one}
+use Rattle.alignment.proofs.PlaceLists.{number_at, stands_at, zero_first}
+use Rattle.alignment.proofs.ValueFacts.{along_there, from_root_there, output_there}
 
 -- ---- the input node
--- where some element passes, one is found
-first_found : {X : Type 0} (p : X → Bool) (xs : List X) → 1 ≤ count_by p xs → (x : X) × (find p xs ≡ Some x)
-first_found {X} p [] some = absurd (omega arith)
-first_found {X} p (x ∷ xs) some = go (λ k. first_found p xs k) (p x) refl (sum_by-cons (λ y. cond (p y) 1 0) x xs)
-  where
-    go : (1 ≤ count_by p xs → (y : X) × (find p xs ≡ Some y)) → (b : Bool) → p x ≡ b → count_by p (x ∷ xs) ≡ cond b 1 0 + count_by p xs
-        → (y : X) × (cond b (Some x) (find p xs) ≡ Some y)
-    go rest true e k = (x, refl)
-    go rest false e k = rest (omega arith)
-
 -- the first node of a node's name is the node itself
 found_itself : (ns : List Node) (n : Node) → AllPairs (λ m o. m.uid ≢ o.uid) ns → Contains ns n → find (λ m. m.uid.0 == n.uid.0) ns ≡ Some n
 found_itself [] n differ has = let l = has.1 in absurd (omega arith)
@@ -82,11 +75,10 @@ module _ (g : Graph) (sound : IsSound g) where
   -- the input node has its name, and no input channels
   input_there : IsNode g (input_name g) × (ins_at g (input_name g) ≡ 0)
   input_there =
-      let f = first_found (λ n. is_input n.kind) g.nodes (let one = sound.shaped.ends.0 in omega arith) in
-      let is = found_in (λ n. is_input n.kind) (Contains g.nodes) g.nodes f.0 (recursion_from_All (Contains g.nodes) g.nodes (All-contains_itself g.nodes)) f.1 in
-      let at : input_name g ≡ f.0.uid.0 = ap name_or_zero f.1 in
-      let itself : node_named g (input_name g) ≡ Some f.0 = ap (node_named g) at ∙ found_itself g.nodes f.0 sound.shaped.uids_differ is.0 in
-      (ap is_some itself, ap (or_zero ins_of) itself ∙ no_ins f.0.kind is.1)
+      let f = find_one (λ n. is_input n.kind) g.nodes sound.shaped.ends.0 in
+      let at : input_name g ≡ f.0.uid.0 = ap name_or_zero f.3 in
+      let itself : node_named g (input_name g) ≡ Some f.0 = ap (node_named g) at ∙ found_itself g.nodes f.0 sound.shaped.uids_differ f.1 in
+      (ap is_some itself, ap (or_zero ins_of) itself ∙ no_ins f.0.kind f.2)
 
   -- no connection leads into it
   input_alone : (u : ℕ) → IsJoined g u (input_name g) → ⊥
@@ -118,29 +110,9 @@ reach_is_alignment g sound = record {
 }
 
 -- ---- numbers that rise
--- the place of a number
-place_of : (xs : List ℕ) (v : ℕ) → Contains xs v → (k : ℕ) × (k < length xs) × (slice_index xs k ≡ v)
-place_of xs v has = (has.0, has.1, get_or_default xs has.0 0 v has.1 ∙ has.2)
-
 -- a number has one place
 one_place : (xs : List ℕ) → IsStrictlyIncreasing xs → (i j : ℕ) → i < length xs → j < length xs → slice_index xs i ≡ slice_index xs j → i ≡ j
-one_place xs rising i j l m same =
-    elim (cases_lt i j) [
-      | inl less ↦ (let up = AllPairs-from_increasing xs rising i j 0 less m in absurd (omega arith))
-      | inr no_less ↦
-          elim (cases_lt j i) [
-            | inl more ↦ (let up = AllPairs-from_increasing xs rising j i 0 more l in absurd (omega arith))
-            | inr no_more ↦ omega arith
-          ]
-    ]
-
--- 0 has the first
-first_is_zero : (xs : List ℕ) → IsStrictlyIncreasing xs → Contains xs 0 → slice_index xs 0 ≡ 0
-first_is_zero xs rising has = go (place_of xs 0 has)
-  where
-    go : (k : ℕ) × (k < length xs) × (slice_index xs k ≡ 0) → slice_index xs 0 ≡ 0
-    go (zero, l, e) = e
-    go (suc k, l, e) = let up = AllPairs-from_increasing xs rising 0 (suc k) 0 (omega arith) l in absurd (omega arith)
+one_place xs rising i j l m same = sym (number_at xs rising i l) ∙ ap (number_in xs) same ∙ number_at xs rising j m
 
 -- a number stands once
 stands_once : (xs : List ℕ) → IsStrictlyIncreasing xs → (v : ℕ) → Contains xs v → count_by (λ x. v == x) xs ≡ 1
@@ -217,12 +189,6 @@ leasts_within g bound latency each most =
     go true = ((omega (arith, ints), omega (arith, ints)), ((omega (arith, ints), omega (arith, ints)), tt))
     go false = ((omega (arith, ints), omega (arith, ints)), tt)
 
--- the arc from the output node to the root
-output_to_root : (g : Graph) (latency : ℕ) → Contains (to_root g latency) (record { tail = output_name g; head = 0; least = neg_ℤ (pos latency) })
-output_to_root g latency =
-    Contains-append_right (cond (is_live g (input_name g)) (record { tail = input_name g; head = 0; least = pos 0 } ∷ []) [])
-    (record { tail = output_name g; head = 0; least = neg_ℤ (pos latency) } ∷ []) (record { tail = output_name g; head = 0; least = neg_ℤ (pos latency) }) (0, omega arith, refl)
-
 module _ (g : Graph) (points : List ℕ) (net : Network) (sound : IsSound g) (are : ArePoints g points) (is : IsNetworkOf g points net) where
   -- ---- walks
   -- the arc of a difference of the network
@@ -245,11 +211,11 @@ module _ (g : Graph) (points : List ℕ) (net : Network) (sound : IsSound g) (ar
 
   -- the root has place 0
   root_first : slice_index points 0 ≡ 0
-  root_first = first_is_zero points are.rising (are.all 0 (inl refl))
+  root_first = (zero_first points are.rising (are.all 0 (inl refl))).1
 
   -- so there is a place
   some : 0 < length points
-  some = let has = are.all 0 (inl refl) in let l = has.1 in omega arith
+  some = (zero_first points are.rising (are.all 0 (inl refl))).0
 
   -- from the root to each point
   forth : (k : ℕ) → k < length points → Reaches (map length_of net.arcs) 0 k
@@ -258,19 +224,11 @@ module _ (g : Graph) (points : List ℕ) (net : Network) (sound : IsSound g) (ar
       let up = AllPairs-from_increasing points are.rising 0 (suc k) 0 (omega arith) l in
       let first = root_first in
       let later : (slice_index points (suc k) ≡ 0 → ⊥) = λ e. absurd (omega arith) in
-      hop (from_root (slice_index points (suc k)))
-      (Contains-append_right (map (along g) (live_connections g)) _ _
-      (Contains-append_left (map from_root (live_nodes g)) (to_root g (latency_of_graph g)) _
-      (Contains-map from_root (live_nodes g) (slice_index points (suc k)) (named_live (slice_index points (suc k)) later (are.each (suc k) 0 l)))))
-      0 (suc k) some l root_first refl
+      hop (from_root (slice_index points (suc k))) (from_root_there g sound (slice_index points (suc k)) (live_of later (are.each (suc k) 0 l))) 0 (suc k) some l root_first refl
     where
-      named_live : (v : ℕ) → (v ≡ 0 → ⊥) → IsPoint g v → Contains (live_nodes g) v
-      named_live v later (inl root) = absurd (later root)
-      named_live v later (inr live) =
-          filter_has (is_live g) (map (λ n. n.uid.0) g.nodes) v
-          (All-contains (Contains (map (λ n. n.uid.0) g.nodes)) (output_name g ∷ live.0) v
-          (All-from_recursion (Contains (map (λ n. n.uid.0) g.nodes)) (output_name g ∷ live.0) (all_in g (output_name g) live.0 live.1)) live.2)
-          (live_by_test g (depth g) (sound_is_ranked g sound) v live)
+      live_of : {v : ℕ} → (v ≡ 0 → ⊥) → IsPoint g v → IsLive g v
+      live_of later (inl root) = absurd (later root)
+      live_of later (inr live) = live
 
   -- each place of a name reaches the root
   abbrev ReachesRoot : ℕ → Type 0
@@ -283,11 +241,11 @@ module _ (g : Graph) (points : List ℕ) (net : Network) (sound : IsSound g) (ar
   -- along a connection
   source_reaches : (c : Connection) → Contains g.connections c → is_live g c.dst.0 ≡ true → ReachesRoot c.dst.0 → ReachesRoot c.src.0
   source_reaches c has live rest k l e =
-      let next = place_of points c.dst.0 (live_point c.dst.0 live) in
-      joins (map length_of net.arcs) k next.0 0
-      (hop (along g c) (Contains-append_left (map (along g) (live_connections g)) _ _
-      (Contains-map (along g) (live_connections g) c (filter_has (λ d. is_live g d.dst.0) g.connections c has live))) k next.0 l next.1 e next.2)
-      (rest next.0 next.1 next.2)
+      let next = number_in points c.dst.0 in
+      let at = stands_at points c.dst.0 (live_point c.dst.0 live) in
+      joins (map length_of net.arcs) k next 0
+      (hop (along g c) (along_there g sound c (filter_has (λ d. is_live g d.dst.0) g.connections c has live)) k next l at.0 e at.1)
+      (rest next at.0 at.1)
 
   -- along a path
   path_reaches : (v : ℕ) (us : List ℕ) → IsPathTo g v us → is_live g v ≡ true → ReachesRoot v → (w : ℕ) → Contains (v ∷ us) w → ReachesRoot w
@@ -312,10 +270,7 @@ module _ (g : Graph) (points : List ℕ) (net : Network) (sound : IsSound g) (ar
     where
       from_output : ReachesRoot (output_name g)
       from_output k l e =
-          hop (record { tail = output_name g; head = 0; least = neg_ℤ (pos (latency_of_graph g)) })
-          (Contains-append_right (map (along g) (live_connections g)) _ _
-          (Contains-append_right (map from_root (live_nodes g)) (to_root g (latency_of_graph g)) _ (output_to_root g (latency_of_graph g))))
-          k 0 l some e root_first
+          hop (record { tail = output_name g; head = 0; least = neg_ℤ (pos (latency_of_graph g)) }) (output_there g sound) k 0 l some e root_first
 
   -- ---- potentials: the reaches
   -- no arc rises more than they do

@@ -1,11 +1,10 @@
 //! The input node and the output node of a graph, and its latency.
 
-ghost use Rattle.std.specs.Prelude.{◌≡◌, ◌≤◌, ◌<◌, ◌^◌, length};
+ghost use Rattle.std.specs.Prelude.{◌≡◌, ◌≤◌, ◌^◌};
 ghost use Rattle.std.specs.List.{find, position};
 ghost use Rattle.std.specs.Option.{option_copied};
 ghost use Rattle.graph_model.specs.Graphs.{is_input, is_output, input_name as input_name_of, output_name as output_name_of};
 ghost use Rattle.graph_model.specs.Paths.{latency_of_graph};
-ghost use Rattle.topology.specs.Named.{uid_at};
 
 use connections::Checked;
 use graph_model::{Graph, Kind, Node};

@@ -1,6 +1,6 @@
 //! The live connections of a graph, between its points.
 
-ghost use Rattle.std.specs.Prelude.{◌≡◌, ◌<◌, IfOk};
+ghost use Rattle.std.specs.Prelude.{◌≡◌, IfOk};
 ghost use Rattle.graph_model.specs.Graphs.{IsNode, latency_at};
 ghost use Rattle.alignment.specs.Networks.{ArePoints};
 ghost use Rattle.alignment.specs.Links.{links_of};
