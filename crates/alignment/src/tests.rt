@@ -184,6 +184,19 @@ fn equal_latencies_need_no_delay(rt: HostRuntime) -> Result<(), Fail> {
     Ok(())
 }
 
+/// A longer way beside it does not let the input come later: its connection waits.
+#[test]
+fn the_input_stays_at_0(rt: HostRuntime) -> Result<(), Fail> {
+    let alloc = rt.alloc();
+    let nodes = vec![in alloc; input(1, 1), output(2, 2), insert(3, 5)]?;
+    let ways = [joined(3, 2), joined_at(1, 0, 2, 1)];
+    let aligned = aligned(alloc, nodes, &ways)?;
+    let places = [at(1, 0), at(2, 5), at(3, 0)];
+    assert_eq!(rt; aligned.at.as_slice(), places.as_slice());
+    assert_eq!(rt; (aligned.total, aligned.bound), (5, 5));
+    Ok(())
+}
+
 /// Gains and inserts in turn, between an input under 1 and an output under 512.
 fn many_nodes(alloc: Global) -> Result<Vec<Node>, AllocError> {
     let mut nodes = vec![in alloc; input(1, 1), output(512, 1)]?;
