@@ -10,3 +10,4 @@ pub mod NeedFacts
 pub mod NetworkFacts
 pub mod AlignFacts
 pub mod PlaceFacts
+pub mod OneFacts

@@ -2,3 +2,4 @@ pub mod Networks
 pub mod Links
 pub mod Places
 pub mod Carried
+pub mod Laws

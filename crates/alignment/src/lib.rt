@@ -12,11 +12,14 @@
 //! of their duality, and on `min_cost_flow` for flow and potentials.
 #![tactic(auto)]
 
-ghost use Rattle.std.specs.Prelude.{◌≡◌, IfOk};
+ghost use Rattle.std.specs.Prelude.{ℕ, ◌≤◌, IfOk};
+ghost use Rattle.graph_model.specs.Graphs.{output_name};
+ghost use Rattle.plan_model.specs.Alignments.{IsAlignment, position_in};
 ghost use Rattle.plan_model.specs.Results.{IsAligned};
 
 mod carried;
 mod ends;
+pub mod laws;
 mod links;
 mod needs;
 mod network;
@@ -57,7 +60,8 @@ pub struct Aligned {
 /// Positions and delays are in frames. The live input node stands at 0 and the output node at the graph's latency. It
 /// fails only for want of memory.
 pub fn align(alloc: Global, graph: &Checked) -> Result<Aligned, AllocError>
-    ensures { IfOk result (λ a. IsAligned graph.now a.at a.lines a.total a.arcs a.bound) }
+    ensures aligned { IfOk result (λ a. IsAligned graph.now a.at a.lines a.total a.arcs a.bound) }
+    ensures least_latency { IfOk result (λ a. (q : ℕ → ℕ) → IsAlignment graph.now q → position_in a.at (output_name graph.now) ≤ q (output_name graph.now)) }
 {
     let points = points(alloc, graph)?;
     let links = links(alloc, graph, &points)?;

@@ -15,6 +15,7 @@ use Rattle.alignment.specs.Places.{ArePositions, line_of, places_of}
 use Rattle.alignment.specs.declared.links.Link.{Link}
 use Rattle.alignment.proofs.NetworkFacts.{network_is_one}
 use Rattle.alignment.proofs.AlignFacts.{solution, positions, timely, few_links, short_delays, leasts, bound_is, is_aligned_as}
+use Rattle.alignment.proofs.OneFacts.{no_earlier}
 use Rattle.alignment.proofs.align.Goals as goal
 
 pub solve-requires : goal.solve-requires
@@ -103,8 +104,8 @@ overflow_cast-result c =
     let small : Fits w64 c.total.result = search rules in
     rw (to_z-of_z w128 c.bound.result fits, bound) (tt, small)
 
-pub returns : goal.returns
-returns c =
+pub returns-clause-aligned : goal.returns-clause-aligned
+returns-clause-aligned c =
     let e = c.in_ok-solved.ensures in
     let s = solution c.args.graph.now c.in_ok-points.points.items c.deref-2.result.now c.in_ok-network.network c.in_ok-solved.solved
     c.in_ok-points.ensures.points c.in_ok-points.ensures.sound c.deref-2.ensures.value c.in_ok-network.ensures e.sizes e.meets e.tight e.root e.least in
@@ -125,3 +126,6 @@ returns c =
     (c.in_ok-places.ensures ∙ (λ i. places_of (drop 1 (c.deref-5.ensures.value i)) (drop 1 (c.as_slice-potentials.ensures i))))
     (c.lines-2.view_is ∙ lines) (c.total.ensures ∙ ap (sum_by (λ (l : LineAt). l.delay)) (c.as_slice.ensures ∙ sym c.lines-2.view_is))
     (c.in_ok-carried.ensures ∙ (λ i. carried_by (c.deref-6.ensures.value i) (c.as_slice-arcs.ensures i) (c.as_slice-flow.ensures i))) whole
+
+pub returns-clause-least_latency : goal.returns-clause-least_latency
+returns-clause-least_latency c = λ q al. no_earlier c.args.graph.now _ q c.in_ok-points.ensures.sound (returns-clause-aligned c).best al

@@ -11,11 +11,11 @@ use Rattle.graph_host.proofs.OutputLaws.{not_shifted}
 use Rattle.graph_host.proofs.output.aligned_answer.Goals as goal
 
 pub answer_at-requires-clause-near : goal.answer_at-requires-clause-near
-answer_at-requires-clause-near c = rw c.in_ok-aligned.ensures.best.latency (few_frames_late c.args.graph.now c.requires.sound)
+answer_at-requires-clause-near c = rw c.in_ok-aligned.ensures.aligned.best.latency (few_frames_late c.args.graph.now c.requires.sound)
 
 pub returns : goal.returns
 returns c =
     subst (λ h. IfOk c.answer_at.result (λ v. v ≡ interleaved h))
     (not_shifted (position_in c.in_ok-aligned.aligned.at (output_name c.args.graph.now)) (latency_of_graph c.args.graph.now) (ins_at c.args.graph.now (output_name c.args.graph.now))
-    (answer c.args.graph.now (frames_of (in_channels c.args.graph.now) c.args.samples.now)) c.in_ok-aligned.ensures.best.latency)
+    (answer c.args.graph.now (frames_of (in_channels c.args.graph.now) c.args.samples.now)) c.in_ok-aligned.ensures.aligned.best.latency)
     c.answer_at.ensures
