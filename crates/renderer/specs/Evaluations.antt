@@ -6,10 +6,10 @@ use Rattle.graph_model.specs.Graphs.{input_name, outs_at}
 use Rattle.graph_model.specs.Histories.{History, frames_of, interleaved}
 use Rattle.graph_model.specs.Paths.{is_live}
 use Rattle.graph_model.specs.Sound.{IsSound}
-use Rattle.topology.specs.Named.{uid_at}
+use Rattle.graph_model.specs.Named.{uid_at}
 use Rattle.renderer.specs.Positions.{position_at}
 use Rattle.renderer.specs.Routes.{AreRoutes}
-use Rattle.renderer.specs.Samples.{AreUpTo}
+use Rattle.graph_model.specs.Bounds.{AreUpTo}
 use Rattle.renderer.specs.declared.evaluation.Evaluation.{Evaluation}
 
 -- the history of the input

@@ -4,9 +4,9 @@ ghost use Rattle.std.specs.Prelude.{◌≡◌, ◌%◌, ◌^◌, ◌<◌, IfOk, 
 ghost use Rattle.graph_model.specs.Graphs.{input_name, outs_at};
 ghost use Rattle.graph_model.specs.Paths.{is_live};
 ghost use Rattle.plan_model.specs.Alignments.{IsAlignment};
-ghost use Rattle.topology.specs.Named.{uid_at};
+ghost use Rattle.graph_model.specs.Named.{uid_at};
 ghost use Rattle.renderer.specs.Positions.{position_at};
-ghost use Rattle.renderer.specs.Samples.{AreUpTo};
+ghost use Rattle.graph_model.specs.Bounds.{AreUpTo};
 
 use crate::lookup::input_channels;
 use crate::routes::{Route, routes};

@@ -23,7 +23,7 @@ ghost use Rattle.graph_model.specs.Paths.{latency_of_graph};
 ghost use Rattle.plan_model.specs.Alignments.{IsAlignment, position_in};
 ghost use Rattle.plan_model.specs.Certified.{AreLiveNodes};
 ghost use Rattle.renderer.specs.Positions.{position_at};
-ghost use Rattle.renderer.specs.Samples.{AreUpTo};
+ghost use Rattle.graph_model.specs.Bounds.{AreUpTo};
 
 mod evaluation;
 pub mod laws;

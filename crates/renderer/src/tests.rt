@@ -4,7 +4,7 @@ ghost use Rattle.graph_model.specs.Sound.{Fits};
 ghost use Rattle.graph_model.specs.declared.kind.Kind.TheVariants.{Gain};
 ghost use Rattle.plan_model.specs.Alignments.{IsAlignment, position_in};
 ghost use Rattle.plan_model.specs.Certified.{AreLiveNodes};
-ghost use Rattle.renderer.specs.Samples.{AreUpTo};
+ghost use Rattle.graph_model.specs.Bounds.{AreUpTo};
 
 use crate::lookup::input_channels;
 use crate::{answer, answer_at};

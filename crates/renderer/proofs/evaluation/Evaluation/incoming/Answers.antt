@@ -5,9 +5,9 @@ use Rattle.graph_model.specs.Graphs.{ins_at}
 use Rattle.graph_model.specs.Paths.{live_connections}
 use Rattle.graph_model.specs.declared.graph.Node.{Node}
 use Rattle.graph_model.specs.declared.graph.Graph.{Graph}
-use Rattle.topology.specs.Named.{uid_at}
-use Rattle.renderer.proofs.NodeFacts.{ins_is}
-use Rattle.renderer.specs.Samples.{AreUpTo}
+use Rattle.graph_model.specs.Named.{uid_at}
+use Rattle.graph_model.proofs.NodeFacts.{ins_is}
+use Rattle.graph_model.specs.Bounds.{AreUpTo}
 use Rattle.renderer.specs.Routes.{IsAdded}
 use Rattle.topology.proofs.LinkFacts.{any_connection}
 use Rattle.renderer.proofs.SumFacts.{AreSums, no_sums, sums_same, sums_more, sums_small, sums_all, route_place, route_at, from_within, to_within, to_channels, stream_outgoing, stream_long, stream_small, any_route, source_within}

@@ -9,6 +9,7 @@ use Rattle.std.proofs.Math.Nat.{suc-mul, mul-le-mul_right, mod-lt, div-lt_iff_lt
 use Rattle.graph_model.specs.Histories.{Frame, History, sample, history_of, before, frame_in, frames_of, interleaved, each}
 use Rattle.graph_model.proofs.HistoryLaws.{length-history_of, sample-history_of}
 use Rattle.graph_model.proofs.BlockLaws.{whole, length-frame_in}
+use Rattle.graph_model.proofs.Common.{by_lt}
 
 -- every frame has m samples
 abbrev pub AreWide : ℕ → History → Type 0
@@ -35,9 +36,6 @@ length-interleaved m (f ∷ h) w =
     let rest = length-interleaved m h w.1 in
     let here = w.0 in
     omega (arith, length-append (interleaved h) f, suc-mul (length h) m)
-
-by_lt : {P : Type 0} (a b : ℕ) → (a < b → P) → (b ≤ a → P) → P
-by_lt a b f g = ⊎_elim f g (cases_lt a b)
 
 -- frame t came in `length h - 1 - t` frames ago
 pub get_or-interleaved : (m : ℕ) (h : History) → AreWide m h → (t c : ℕ) → t < length h → c < m
