@@ -8,7 +8,7 @@ use Rattle.std.proofs.lemmas.List.FromFn.{length-map-range_with_len}
 use Rattle.graph_model.specs.StreamLaws.{map-range_same}
 use Rattle.graph_model.specs.Graphs.{IsRanked, IsNode, node_named, ins_at, outs_at, or_zero, connections_to}
 use Rattle.graph_model.specs.Kinds.{ins_of, outs_of}
-use Rattle.std.specs.Prelude.{unsigned_abs, min, replicate, ◌-◌, ◌*◌, ◌+◌, ◌^◌, map}
+use Rattle.std.specs.Prelude.{unsigned_abs, min, ◌-◌, ◌*◌, ◌^◌}
 use Rattle.std.proofs.lemmas.List.{length-map, length-replicate}
 use Rattle.graph_model.specs.Rounding.{rounded_nat}
 use Rattle.graph_model.specs.Filters.{gains_to}

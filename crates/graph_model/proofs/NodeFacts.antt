@@ -1,6 +1,6 @@
 -- The nodes of a sound graph, by name and by index.
 use Rattle.std.proofs.Common.{◌≡◌, ℕ, zero, suc, ◌+◌, ◌<◌, List, [], ◌∷◌, length, get_or, refl, sym, ◌∙◌, ap, subst, Bool, true, false, cond, arith, Option, Some, None, ◌==◌, inl, inr, Bor}
-use Rattle.std.specs.Prelude.{IsSome, count_by, ◌≢◌}
+use Rattle.std.specs.Prelude.{IsSome, count_by}
 use Rattle.std.specs.List.{find, AllByRecursion, Contains, position, position_or_len, slice_get}
 use Rattle.std.specs.Option.{is_some, option_copied}
 use Rattle.std.proofs.lemmas.Bool.{eqb-true, false≢true, lt-ltb}
@@ -16,13 +16,11 @@ use Rattle.graph_model.specs.Members.{bad_member}
 use Rattle.graph_model.specs.Paths.{IsPathTo, latencies, reach, depth}
 use Rattle.graph_model.specs.Ranges.{IsInRange, HasRange}
 use Rattle.graph_model.specs.Sound.{IsSound}
-use Rattle.graph_model.proofs.PathLaws.{same_name}
 use Rattle.graph_model.proofs.RangeLaws.{in_range}
 use Rattle.graph_model.proofs.RankLaws.{nodes_exist, sound_is_ranked}
 use Rattle.graph_model.proofs.ReachLaws.{reach_is_longest}
 use Rattle.graph_model.specs.declared.kind.Kind.{Kind}
 use Rattle.graph_model.specs.declared.kind.Kind.TheVariants.{Input}
-use Rattle.graph_model.specs.declared.graph.Uid.{Uid}
 use Rattle.graph_model.specs.declared.graph.Node.{Node}
 use Rattle.graph_model.specs.declared.graph.Connection.{Connection}
 use Rattle.graph_model.specs.declared.graph.Graph.{Graph}

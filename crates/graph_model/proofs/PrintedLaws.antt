@@ -1,10 +1,10 @@
 -- The printed path is a path whose sum is the reach, and there is one.
-use Rattle.std.proofs.Common.{◌≡◌, ℕ, zero, suc, ◌+◌, ◌≤◌, ◌==◌, List, [], ◌∷◌, length, map, refl, sym, ap, subst, ◌∙◌, arith}
+use Rattle.std.proofs.Common.{◌≡◌, ℕ, zero, suc, ◌+◌, ◌≤◌, ◌==◌, [], ◌∷◌, length, map, refl, sym, ap, subst, ◌∙◌, arith}
 use Rattle.std.specs.List.{Contains}
 use Rattle.std.proofs.lemmas.List.Sums.{sum_by-cons}
 use Rattle.std.proofs.lemmas.List.Elements.{All-contains}
-use Rattle.graph_model.specs.Graphs.{IsRanked, IsNode, IsJoined, latency_at, connections_into}
-use Rattle.graph_model.specs.Paths.{IsPathTo, IsPrinted, latencies, greatest, reach, reach_within}
+use Rattle.graph_model.specs.Graphs.{IsNode, IsJoined, latency_at, connections_into}
+use Rattle.graph_model.specs.Paths.{IsPrinted, greatest, reach_within}
 use Rattle.graph_model.specs.Laws.{PrintedIsLongest, PrintedIsOne}
 use Rattle.graph_model.proofs.PathLaws.{same_name}
 use Rattle.graph_model.proofs.ReachLaws.{filter_has}

@@ -6,7 +6,6 @@ use Rattle.std.proofs.lemmas.List.{append-nil, length-drop}
 use Rattle.std.proofs.lemmas.List.FromFn.{length-map-range_with_len}
 use Rattle.std.proofs.lemmas.Nat.{div-add-mod'}
 use Rattle.graph_model.specs.Histories.{Frame, History, before, frame_in, interleaved}
-use Rattle.graph_model.specs.StreamLaws.{length-each}
 use Rattle.graph_model.specs.Kinds.{outs_of, rule_of, stream_of}
 use Rattle.graph_model.specs.Graphs.{is_input}
 use Rattle.graph_model.specs.Bounds.{IsWithin}

@@ -80,6 +80,18 @@ module _ (m n : ℕ) (xs : List ℤ) (some : 0 < m) (whole : length xs ≡ n * m
         ]
       ]
 
+-- ---- the bounds of a sound graph
+module _ (g : Graph) (sound : IsSound g) where
+  pub bounded_at : (i : ℕ) → i < length g.nodes → IsBounded (bounds g (uid_at g i))
+  bounded_at i lt = subst (λ w. IsBounded (bounds g w)) (sym (name_is g i lt)) (sound.headroom i any_node lt)
+
+  pub bound_is : (i : ℕ) → i < length g.nodes → IsBoundOf (get_or g.nodes i any_node).kind (bounds g (uid_at g i))
+  bound_is i inside = record {
+    ins = length-ins g (uid_at g i) ∙ ins_is g sound i any_node inside;
+    outs = outs_are g sound.shaped (uid_at g i) (get_or g.nodes i any_node) (node_is g (named g sound) i any_node inside);
+    bounded = bounded_at i inside;
+  }
+
 -- ---- a sound graph at positions p, into which n frames h come whose samples are at most 2 ^ 31 in size
 module _ (g : Graph) (sound : IsSound g) (p : ℕ → ℕ) (h : History) (n : ℕ)
     (long : length h ≡ n) (wide : AreWide (in_channels g) h) (small : (c k : ℕ) → unsigned_abs (sample h c k) ≤ 2 ^ 31) where
@@ -98,10 +110,6 @@ module _ (g : Graph) (sound : IsSound g) (p : ℕ → ℕ) (h : History) (n : �
           ]
       of_input kind i same = absurd (false≢true i)
 
-  -- ---- how large
-  bounded_at : (i : ℕ) → i < length g.nodes → IsBounded (bounds g (uid_at g i))
-  bounded_at i lt = subst (λ w. IsBounded (bounds g w)) (sym (name_is g i lt)) (sound.headroom i any_node lt)
-
   -- no sample that goes out, of any name, is larger than 2 ^ 46
   pub outgoing_small : (v c k : ℕ) → unsigned_abs (sample (outgoing g p h v) c k) ≤ 2 ^ 46
   outgoing_small v c k =
@@ -113,7 +121,7 @@ module _ (g : Graph) (sound : IsSound g) (p : ℕ → ℕ) (h : History) (n : �
             subst (λ h. unsigned_abs (sample h c k) ≤ 2 ^ 46) (sym nothing) (omega arith))
         | Some node ↦ λ found.
             (let at = index_of g sound v node found in
-            let bounded : IsBounded (bounds g v) = subst (λ w. IsBounded (bounds g w)) at.2 (bounded_at at.0 at.1) in
+            let bounded : IsBounded (bounds g v) = subst (λ w. IsBounded (bounds g w)) at.2 (bounded_at g sound at.0 at.1) in
             let within = (samples_are_bounded g p h input_for v).1 c k in
             let most = all_at (2 ^ 46) (bounds g v).outs c bounded.1 in
             omega arith)
@@ -123,13 +131,6 @@ module _ (g : Graph) (sound : IsSound g) (p : ℕ → ℕ) (h : History) (n : �
   module _ (i : ℕ) (inside : i < length g.nodes) where
     pub incoming_within : IsWithin (bounds g (uid_at g i)).ins (incoming g p h (uid_at g i))
     incoming_within = (samples_are_bounded g p h input_for (uid_at g i)).0
-
-    pub bound_is : IsBoundOf (get_or g.nodes i any_node).kind (bounds g (uid_at g i))
-    bound_is = record {
-      ins = length-ins g (uid_at g i) ∙ ins_is g sound i any_node inside;
-      outs = outs_are g sound.shaped (uid_at g i) (get_or g.nodes i any_node) (node_is g (named g sound) i any_node inside);
-      bounded = bounded_at i inside;
-    }
 
     pub outgoing_given : outgoing g p h (uid_at g i)
         ≡ given_by (get_or g.nodes i any_node).kind h (incoming g p h (uid_at g i))

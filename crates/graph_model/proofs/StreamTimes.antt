@@ -1,24 +1,19 @@
 -- From whole histories to functions of time.
-use Rattle.std.proofs.Common.{◌≡◌, ℕ, zero, suc, ◌+◌, ◌-◌, ◌<◌, ◌≤◌, List, [], ◌∷◌, length, map, drop, get_or, ℤ, pos, refl, sym, ap, ◌∙◌, subst, arith, Option, Some, None, Bool, true, false, cond, ltb, ◌==◌, ◌&&◌}
+use Rattle.std.proofs.Common.{◌≡◌, ℕ, zero, suc, ◌+◌, ◌-◌, List, [], ◌∷◌, length, map, drop, ℤ, pos, refl, sym, ap, ◌∙◌, subst, arith, Some, None, true, ltb}
 use Rattle.std.specs.List.{range_with_len}
 use Rattle.std.specs.Option.{is_some}
-use Rattle.std.proofs.lemmas.Bool.{cond-true, cond-false, lt-ltb, le-ltb, cases_lt}
-use Rattle.std.proofs.Common.{⊎_elim}
-use Rattle.std.proofs.lemmas.List.{get_or-drop, length-drop}
+use Rattle.std.proofs.lemmas.Bool.{cond-true, cond-false, lt-ltb, le-ltb}
 use Rattle.std.proofs.lemmas.List.FromFn.{get_or-map-range_with_len}
-use Rattle.graph_model.specs.Histories.{Frame, History, history_of, sample, stream, each}
-use Rattle.graph_model.specs.StreamLaws.{length-each, sample-drop}
-use Rattle.graph_model.specs.Kinds.{rule_of, stream_of}
-use Rattle.graph_model.specs.Graphs.{IsRanked, IsNode, node_named, ins_at, is_input, connections_to}
-use Rattle.graph_model.specs.Answers.{delay, sum_of, sum_into, into, given, given_by, out_within, outgoing, incoming}
-use Rattle.graph_model.proofs.HistoryLaws.{sum_of-same, all_of, history_of-same, drop-history_of, length-history_of, sample-past}
+use Rattle.graph_model.specs.Histories.{Frame, History, history_of, sample, each}
+use Rattle.graph_model.specs.StreamLaws.{sample-drop}
+use Rattle.graph_model.specs.Kinds.{rule_of}
+use Rattle.graph_model.specs.Graphs.{IsRanked, IsNode, node_named, ins_at, connections_to}
+use Rattle.graph_model.specs.Answers.{delay, sum_of, sum_into, given, given_by, outgoing, incoming}
+use Rattle.graph_model.proofs.HistoryLaws.{sum_of-same, all_of, length-history_of, sample-past}
 use Rattle.graph_model.proofs.AnswerLaws.{in-causal, length-given_by, length-out, out-causal, out-solves}
 use Rattle.graph_model.proofs.BlockLaws.{length-before}
 use Rattle.graph_model.proofs.StreamFacts.{given_input, given_processor}
-use Rattle.graph_model.specs.declared.kind.Kind.{Kind}
-use Rattle.graph_model.specs.declared.kind.Kind.TheVariants.{Input, Output, Gain, Mixer, Fir, Biquad, Limiter, Delay, Insert}
 use Rattle.graph_model.specs.declared.graph.Node.{Node}
-use Rattle.graph_model.specs.declared.graph.Connection.{Connection}
 use Rattle.graph_model.specs.declared.graph.Graph.{Graph}
 use Rattle.graph_model.specs.Histories.{before, newest}
 use Rattle.graph_model.specs.Streams.{on, later, in_at, out_at, tap, AreStreams, HistoriesAreStreams, IncomingIsBefore, OutgoingIsBefore}

@@ -1,5 +1,5 @@
 -- Blocks of planar samples as histories: the samples of each channel stand in a row, one row after the other.
-use Rattle.std.specs.Prelude.{◌≡◌, ℕ, zero, suc, ◌+◌, ◌*◌, List, [], ◌∷◌, ◌++◌, map, take, get_or, ℤ, pos}
+use Rattle.std.specs.Prelude.{◌≡◌, ℕ, zero, suc, ◌+◌, ◌*◌, List, [], ◌∷◌, ◌++◌, map, get_or, ℤ, pos}
 use Rattle.std.specs.List.{range_with_len}
 use Rattle.graph_model.specs.Histories.{Frame, History, before, stream}
 

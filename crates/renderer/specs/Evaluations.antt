@@ -33,7 +33,6 @@ pub record IsEvaluation (e : Evaluation) : Type 0 where
   pub routes : AreRoutes e.graph.now (positions_of e) e.routes.items
   pub whole : length e.input.now ≡ e.frames * outs_at e.graph.now (input_name e.graph.now)
   pub small : AreUpTo (2 ^ 31) e.input.now
-  pub few : e.frames < 2 ^ 40
 
 -- the streams have what goes out of node i
 abbrev pub HasStream : Evaluation → List (List ℤ) → ℕ → Type 0

@@ -35,7 +35,6 @@ fn rendered(
     samples: &[i16],
 ) -> Result<List<i64>, Fail>
     requires fits { Fits graph }
-    requires few { length samples.now < 2 ^ 40 }
 {
     let input = scaled_up(alloc, samples)?;
     let checked = check(alloc, graph)?;
@@ -147,7 +146,6 @@ fn rendered_at(
 ) -> Result<List<i64>, Fail>
     requires after { 5 ≤ late }
     requires near { late ≤ 2 ^ 26 }
-    requires few { length samples.now < 2 ^ 40 }
 {
     let (graph, at) = fan_out(alloc, late)?;
     let input = scaled_up(alloc, samples)?;

@@ -22,7 +22,7 @@ loop-route-init c =
     c.ins-channels.ensures ∙ ap (λ (n : Node). ins_of n.kind) (c.index-as_slice-node.is ∙ ap (λ ns. get_or ns c.args.node node) nodes)
     ∙ sym (ins_is c.args.self.now.graph.now c.requires.state.sound c.args.node node c.requires.node) in
     subst (AreSums c.args.self.now c.args.node 0)
-    (sym (c.in_ok-sums.ensures.items_if_clones_equal (λ y same. same) ∙ ap (λ n. replicate (c.args.self.now.frames * n) (pos 0)) channels))
+    (sym (c.in_ok-sums.ensures ∙ ap (λ n. replicate (c.args.self.now.frames * n) (pos 0)) channels))
     (no_sums c.args.self.now c.requires.state c.args.node c.requires.node)
 
 pub bounds-streams-route : goal.bounds-streams-route
