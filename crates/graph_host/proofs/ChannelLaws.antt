@@ -15,7 +15,7 @@ use Rattle.graph_model.proofs.NameFacts.{any_node}
 use Rattle.topology.proofs.OutputFacts.{output_found, output_named}
 use Rattle.graph_model.proofs.NodeFacts.{has_place, input_exists, input_found, ins_is, position_found, range_at}
 use Rattle.std.proofs.lemmas.List.Quantifiers.{position-Some}
-use Rattle.graph_host.specs.Outputs.{in_channels, out_channels}
+use Rattle.graph_model.specs.Graphs.{in_channels, out_channels}
 
 input_range : (kind : Kind) → HasRange kind → is_input kind ≡ true → (1 ≤ outs_of kind) × (outs_of kind ≤ 32)
 input_range (Input n) r e = r

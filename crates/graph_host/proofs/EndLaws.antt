@@ -9,7 +9,8 @@ use Rattle.wav_pcm.specs.declared.head.WavFault.{WavFault}
 use Rattle.wav_pcm.proofs.OkLaws.{frames_are_there}
 use Rattle.std.specs.Option.{IfSome}
 use Rattle.graph_host.specs.Causes.{IsRefusal, IsGraphEnd, IsInputEnd, IsReadEnd, Stops}
-use Rattle.graph_host.specs.Outputs.{data_bytes, in_channels, output_of}
+use Rattle.graph_model.specs.Graphs.{in_channels}
+use Rattle.graph_host.specs.Outputs.{data_bytes, output_of}
 use Rattle.graph_host.specs.Readings.{IsWritten, IsBegun, MayBeReady}
 use Rattle.graph_host.specs.Requests.{Request}
 use Rattle.graph_model.specs.Sound.{IsSound}

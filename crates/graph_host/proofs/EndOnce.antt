@@ -16,7 +16,8 @@ use Rattle.wav_pcm.proofs.HeadLaws.{reading_is_one}
 use Rattle.wav_pcm.specs.declared.head.Head.{Head}
 use Rattle.wav_pcm.specs.declared.head.WavFault.{WavFault}
 use Rattle.graph_host.specs.Causes.{IsGraphEnd, HasWavFault, IsInputEnd, IsReadEnd, HasEnd, IsEndOf, IsToldEnd, IsCaused, Stops, plain}
-use Rattle.graph_host.specs.Outputs.{data_bytes, in_channels}
+use Rattle.graph_model.specs.Graphs.{in_channels}
+use Rattle.graph_host.specs.Outputs.{data_bytes}
 use Rattle.graph_host.specs.Readings.{HoldsRecords, HoldsGraph, IsReady, MayBeReady}
 use Rattle.graph_host.specs.Requests.{Request}
 use Rattle.graph_host.specs.declared.ends.End.{End}

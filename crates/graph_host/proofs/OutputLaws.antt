@@ -13,7 +13,8 @@ use Rattle.std.proofs.lemmas.List.{append-nil, get_or-replicate, length-drop, le
 use Rattle.wav_pcm.specs.Heads.{head_of, wave_file_of}
 use Rattle.wav_pcm.specs.declared.head.Head.{Head}
 use Rattle.wav_pcm.specs.Samples.{bytes_of, IsSize}
-use Rattle.graph_host.specs.Outputs.{in_channels, out_channels, answered, data_bytes, left_out, output_of, silent_frames}
+use Rattle.graph_model.specs.Graphs.{in_channels, out_channels}
+use Rattle.graph_host.specs.Outputs.{answered, data_bytes, left_out, output_of, silent_frames}
 use Rattle.graph_host.specs.Files.{rendered}
 use Rattle.graph_host.specs.Forms.{written_frames, IsForm, IsFormOf}
 use Rattle.graph_host.specs.Requests.{Request}
@@ -52,12 +53,6 @@ few_frames form good short =
     let one = some_bytes form.bits good.size in
     let each : 1 * (form.bits / 8) ≤ form.channels * (form.bits / 8) = mul-le-mul_right (form.bits / 8) good.channels_least in
     let more : written_frames form * 1 ≤ written_frames form * (form.channels * (form.bits / 8)) = mul-le-mul_left (written_frames form) (omega arith) in
-    omega arith
-
-pub few_samples : (g : Graph) (form : Form) (samples : List ℤ) → in_channels g ≤ 32 → form.frames ≤ 2 ^ 33
-    → length samples ≡ form.frames * in_channels g → length samples < 2 ^ 40
-few_samples g form samples most few whole =
-    let at_most : form.frames * in_channels g ≤ form.frames * 32 = mul-le-mul_left form.frames most in
     omega arith
 
 -- how many samples the answer has

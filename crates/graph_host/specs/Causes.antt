@@ -9,7 +9,8 @@ use Rattle.wav_pcm.specs.Files.{ReadsAs}
 use Rattle.wav_pcm.specs.declared.head.Head.{Head}
 use Rattle.wav_pcm.specs.declared.head.WavFault.{WavFault}
 use Rattle.wav_pcm.specs.declared.head.WavFault.TheVariants.{TooLong}
-use Rattle.graph_host.specs.Outputs.{data_bytes, in_channels}
+use Rattle.graph_model.specs.Graphs.{in_channels}
+use Rattle.graph_host.specs.Outputs.{data_bytes}
 use Rattle.graph_host.specs.Readings.{HoldsRecords, HoldsGraph, MayBeReady}
 use Rattle.graph_host.specs.Requests.{Request}
 use Rattle.graph_host.specs.declared.ends.End.{End}

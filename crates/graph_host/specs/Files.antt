@@ -5,7 +5,7 @@ use Rattle.graph_model.specs.Answers.{answer}
 use Rattle.graph_model.specs.declared.graph.Graph.{Graph}
 use Rattle.wav_pcm.specs.Heads.{wave_file_of}
 use Rattle.wav_pcm.specs.Samples.{IsSize, bytes_of}
-use Rattle.graph_host.specs.Outputs.{in_channels}
+use Rattle.graph_model.specs.Graphs.{in_channels}
 use Rattle.graph_host.specs.declared.forms.Form.{Form}
 use Rattle.graph_host.specs.declared.output.OutputFile.{OutputFile}
 

@@ -3,7 +3,8 @@ use Rattle.std.specs.Prelude.{◌≡◌, ℕ, ◌+◌, ◌-◌, ◌≤◌, Optio
 use Rattle.graph_model.specs.declared.graph.Graph.{Graph}
 use Rattle.wav_pcm.specs.Samples.{IsSize}
 use Rattle.wav_pcm.specs.declared.head.Head.{Head}
-use Rattle.graph_host.specs.Outputs.{left_out, out_channels, sample_size, silent_frames}
+use Rattle.graph_model.specs.Graphs.{out_channels}
+use Rattle.graph_host.specs.Outputs.{left_out, sample_size, silent_frames}
 use Rattle.graph_host.specs.Requests.{Request}
 use Rattle.graph_host.specs.declared.forms.Form.{Form}
 

@@ -1,20 +1,13 @@
 -- The file that a graph makes of a recording.
 use Rattle.std.specs.Prelude.{ℕ, ℤ, List, ◌+◌, ◌-◌, ◌*◌, ◌/◌, ◌++◌, drop, if◌then◌else◌, Option, Some, None}
 use Rattle.graph_model.specs.Histories.{frames_of, interleaved, silence}
-use Rattle.graph_model.specs.Graphs.{ins_at, outs_at, input_name, output_name}
+use Rattle.graph_model.specs.Graphs.{in_channels, out_channels}
 use Rattle.graph_model.specs.Paths.{latency_of_graph}
 use Rattle.graph_model.specs.Answers.{answer}
 use Rattle.graph_model.specs.declared.graph.Graph.{Graph}
 use Rattle.wav_pcm.specs.Heads.{wave_file_of}
 use Rattle.wav_pcm.specs.declared.head.Head.{Head}
 use Rattle.graph_host.specs.Requests.{Request}
-
--- the channels that come into the graph, and those of its answer
-abbrev pub in_channels : Graph → ℕ
-in_channels g = outs_at g (input_name g)
-
-abbrev pub out_channels : Graph → ℕ
-out_channels g = ins_at g (output_name g)
 
 -- how many frames of silence come after the input: as many as the graph's latency, and the tail
 abbrev pub silent_frames : Request → Graph → ℕ

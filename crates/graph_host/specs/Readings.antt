@@ -6,7 +6,8 @@ use Rattle.graph_records.specs.Walk.{walk}
 use Rattle.gh_outside.specs.Holdings.{Holding}
 use Rattle.wav_pcm.specs.Files.{ReadsAs, recorded}
 use Rattle.wav_pcm.specs.declared.head.Head.{Head}
-use Rattle.graph_host.specs.Outputs.{data_bytes, in_channels, output_of}
+use Rattle.graph_model.specs.Graphs.{in_channels}
+use Rattle.graph_host.specs.Outputs.{data_bytes, output_of}
 use Rattle.graph_host.specs.Requests.{Request}
 
 -- the name holds the records of this graph

@@ -3,7 +3,7 @@ use Rattle.std.specs.Prelude.{◌≡◌, ℕ, ℤ, pos, ◌*◌, List, ◌++◌,
 use Rattle.graph_model.specs.declared.graph.Graph.{Graph}
 use Rattle.gh_outside.specs.Holdings.{Holding}
 use Rattle.wav_pcm.specs.declared.head.Head.{Head}
-use Rattle.graph_host.specs.Outputs.{in_channels}
+use Rattle.graph_model.specs.Graphs.{in_channels}
 use Rattle.graph_host.specs.Steps.{FindsRecording}
 
 -- the samples of the frames under a name, and then k frames of silence

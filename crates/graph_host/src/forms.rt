@@ -5,7 +5,6 @@ ghost use Rattle.wav_pcm.specs.Files.{IsHead};
 ghost use Rattle.graph_host.specs.Forms.{written_frames, HasSize, IsForm, IsFormOf};
 ghost use Rattle.graph_host.specs.Requests.{request_in};
 
-use crate::channels::{latency, output_channels};
 use crate::request::RenderRequest;
 use connections::Checked;
 use wav_pcm::Head;
@@ -57,10 +56,10 @@ pub(crate) fn output_form(graph: &Checked, request: &RenderRequest, head: &Head)
     ensures few { result.frames < 2 ^ 66 }
     ensures skipped { (result.skipped ≤ result.silent) × (result.skipped ≤ 2 ^ 26) }
 {
-    let latency = latency(graph) as u128;
+    let latency = graph.latency() as u128;
     let silent = latency + request.tail as u128;
     Form {
-        channels: output_channels(graph),
+        channels: graph.output_channels(),
         rate: head.rate,
         bits: request.bits.unwrap_or(head.bits),
         silent,

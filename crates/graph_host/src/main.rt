@@ -10,7 +10,6 @@
 //! alignment (where the nodes stand), renderer (the answer's samples) and gh_outside (files and what is printed).
 #![tactic(auto)]
 
-mod channels;
 mod ends;
 mod forms;
 mod graphs;
@@ -50,7 +49,7 @@ fn main(rt: HostRuntime) -> ExitCode {
     let words = match words(&rt) {
         Ok(words) => words,
         Err(error) => match error.kind() {
-            ErrorKind::OutOfMemory => return ended(&rt, status::ended(End::Memory)),
+            ErrorKind::OutOfMemory => return print_end(&rt, status::ended(End::Memory)),
             _ => {
                 let _ = eprintln!(rt; "graph_host: the words were not given");
                 return ExitCode::from(NO_WORDS);
@@ -60,11 +59,11 @@ fn main(rt: HostRuntime) -> ExitCode {
     let mut folder = DiskFolder::new(&rt);
     let mut report = WriterSink::new(io::writer(&rt));
     let run = run(&rt, rt.alloc(), words, &mut folder, &mut report);
-    ended(&rt, run)
+    print_end(&rt, run)
 }
 
 /// Prints the text of an end, but for one that is done, and gives its status.
-fn ended<R: Eprint>(rt: &R, run: Run) -> ExitCode {
+fn print_end<R: Eprint>(rt: &R, run: Run) -> ExitCode {
     if run.end != End::Done {
         let _ = eprintln!(rt; "graph_host: {}", run.end);
     }

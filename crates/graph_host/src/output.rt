@@ -8,7 +8,7 @@ ghost use Rattle.graph_model.specs.Sound.{IsSound};
 ghost use Rattle.gh_outside.specs.Causes.{Rose};
 ghost use Rattle.gh_outside.specs.Holdings.{Holds, IsMissing, KeepsOthers};
 ghost use Rattle.wav_pcm.specs.Samples.{bytes_of};
-ghost use Rattle.graph_host.specs.Outputs.{in_channels, out_channels};
+ghost use Rattle.graph_model.specs.Graphs.{in_channels, out_channels};
 ghost use Rattle.graph_host.specs.Files.{file_of, rendered, HasRoom};
 ghost use Rattle.graph_host.specs.Forms.{written_frames, IsForm};
 ghost use Rattle.graph_host.specs.Steps.{IsAppended, IsPart, IsPartAppended};
@@ -49,7 +49,6 @@ fn aligned_answer(alloc: Global, graph: &Checked, samples: &[i64]) -> Result<Lis
     requires sound { IsSound graph.now }
     requires whole { length samples.now % in_channels graph.now ≡ 0 }
     requires small { All (λ x. unsigned_abs x ≤ 2 ^ 31) samples.now }
-    requires few { length samples.now < 2 ^ 40 }
     ensures { IfOk result (λ v. v ≡ interleaved (answer graph.now (frames_of (in_channels graph.now) samples.now))) }
 {
     let aligned = align(alloc, graph)?;

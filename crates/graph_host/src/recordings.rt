@@ -7,13 +7,12 @@ ghost use Rattle.gh_outside.specs.Holdings.{HeldBytes, IsPast};
 ghost use Rattle.wav_pcm.specs.Files.{data_size, recorded, IsHead};
 ghost use Rattle.graph_host.specs.Causes.{IsInputEnd, Stops};
 ghost use Rattle.graph_host.specs.Forms.{written_frames, HasSize, IsForm, IsFormOf};
-ghost use Rattle.graph_host.specs.Outputs.{in_channels};
+ghost use Rattle.graph_model.specs.Graphs.{in_channels};
 ghost use Rattle.graph_host.specs.Recordings.{IsInput};
 ghost use Rattle.graph_host.specs.Requests.{request_in};
 ghost use Rattle.graph_host.specs.Steps.{FindsHead, IsHeadEnd, IsTooLong};
 ghost use Rattle.wav_pcm.specs.declared.head.Head.{Head as HeadValue};
 
-use crate::channels::input_channels;
 use crate::ends::End;
 use crate::forms::{Form, output_form};
 use crate::request::RenderRequest;
@@ -43,7 +42,7 @@ fn head_under<F: Folder>(folder: &mut F, graph: &Checked, name: &str) -> Result<
     ensures reads { F.read_faults folder.old ≤ F.read_faults folder.new }
     ensures writes { F.write_faults folder.new ≡ F.write_faults folder.old }
 {
-    match read_head(folder, name, input_channels(graph)) {
+    match read_head(folder, name, graph.input_channels()) {
         Ok(head) => Ok(head),
         Err(HeadFault::Wav(fault)) => Err(End::Wav(fault)),
         Err(HeadFault::Failed) => Err(End::ReadFault),

@@ -70,6 +70,13 @@ const ALIGNED: &[u8] =
 const COMPENSATED: &[u8] =
     b"RIFF\x26\0\0\0WAVEfmt \x10\0\0\0\x01\0\x01\0\x80\xBB\0\0\0\x77\x01\0\x02\0\x10\0data\x02\0\0\0\xD0\x07";
 
+/// Two nodes and no connection: whatever comes in, silence goes out.
+const OPEN: &[u8] =
+    b"{\"FILTERGRAPH\":{\"CONNECTION\":[],\"FILTER\":[{\"channels\":1,\"kind\":\"input\",\"uid\":1},{\"channels\":1,\"kind\":\"output\",\"uid\":2}]}}";
+
+const THREE_ZEROS: &[u8] =
+    b"RIFF\x2A\0\0\0WAVEfmt \x10\0\0\0\x01\0\x01\0\x80\xBB\0\0\0\x77\x01\0\x02\0\x10\0data\x06\0\0\0\0\0\0\0\0\0";
+
 /// A folder with a graph and a file, and with room for an output, in which these calls fail.
 fn folder(
     alloc: Global,
@@ -120,6 +127,7 @@ fn examples_in_their_bytes(rt: HostRuntime) -> Result<(), Fail> {
     let cases = [
         (RENDER, STRAIGHT, THREE_FRAMES, THREE_FRAMES),
         (RENDER, STRAIGHT, NO_FRAMES, NO_FRAMES),
+        (RENDER, OPEN, THREE_FRAMES, THREE_ZEROS),
         (RENDER, STRAIGHT, ONE_BYTE, ONE_BYTE),
         (RENDER, HALF, SMALL, SMALL_HALVED),
         (RENDER, SUM, TWO_CHANNELS, SUMMED),
@@ -148,35 +156,56 @@ fn examples_in_their_bytes(rt: HostRuntime) -> Result<(), Fail> {
 
 #[test]
 fn each_call_of_the_folder_fails_in_turn(rt: HostRuntime) -> Result<(), Fail> {
-    // the number of the call, the status, how much of the output is there, and the faults of reading and writing
-    let cases: [(u64, u8, Option<usize>, u64, u64); 13] = [
-        (0, 5, None, 1, 0),
-        (1, 5, None, 1, 0),
-        (2, 5, None, 1, 0),
-        (3, 5, None, 1, 0),
-        (4, 5, None, 1, 0),
-        (5, 5, None, 1, 0),
-        (6, 5, None, 1, 0),
-        (7, 5, None, 1, 0),
-        (8, 6, None, 0, 1),
-        (9, 6, Some(22), 0, 1),
-        (10, 6, Some(44), 0, 1),
-        (11, 6, Some(45), 0, 1),
-        (12, 0, Some(46), 0, 0),
+    // the input, the number of the call, the status, how much of the output is there, and the faults of reading and writing
+    let cases: [(&[u8], u64, u8, Option<usize>, u64, u64); 14] = [
+        (ONE_BYTE, 0, 5, None, 1, 0),
+        (ONE_BYTE, 1, 5, None, 1, 0),
+        (ONE_BYTE, 2, 5, None, 1, 0),
+        (ONE_BYTE, 3, 5, None, 1, 0),
+        (ONE_BYTE, 4, 5, None, 1, 0),
+        (ONE_BYTE, 5, 5, None, 1, 0),
+        (ONE_BYTE, 6, 5, None, 1, 0),
+        (ONE_BYTE, 7, 5, None, 1, 0),
+        (ONE_BYTE, 8, 6, None, 0, 1),
+        (ONE_BYTE, 9, 6, Some(22), 0, 1),
+        (ONE_BYTE, 10, 6, Some(44), 0, 1),
+        (THREE_FRAMES, 10, 6, Some(47), 0, 1),
+        (ONE_BYTE, 11, 6, Some(45), 0, 1),
+        (ONE_BYTE, 12, 0, Some(46), 0, 0),
     ];
-    for (call, status, kept, read_faults, write_faults) in cases {
-        let mut folder = folder(rt.alloc(), STRAIGHT, ONE_BYTE, &[call])?;
+    for (input, call, status, kept, read_faults, write_faults) in cases {
+        let mut folder = folder(rt.alloc(), STRAIGHT, input, &[call])?;
         let run = run_line(&rt, &mut folder, RENDER)?;
         assert_eq!(rt; run.status, status, "call {call}");
         assert_eq!(rt;
             folder.file("out.wav"),
-            kept.and_then(|kept| ONE_BYTE.get(..kept)),
+            kept.and_then(|kept| input.get(..kept)),
             "call {call}"
         );
         assert_eq!(rt; folder.file("g.json"), Some(STRAIGHT), "call {call}");
-        assert_eq!(rt; folder.file("in.wav"), Some(ONE_BYTE), "call {call}");
+        assert_eq!(rt; folder.file("in.wav"), Some(input), "call {call}");
         assert_eq!(rt; folder.read_faults(), read_faults, "call {call}");
         assert_eq!(rt; folder.write_faults(), write_faults, "call {call}");
+    }
+    Ok(())
+}
+
+#[test]
+fn nothing_is_read_after_a_refusal(rt: HostRuntime) -> Result<(), Fail> {
+    // the graph, the input, the calls that fail, and the status
+    let later = [2, 3, 4, 5, 6, 7, 8, 9, 10, 11, 12];
+    let cases: [(&[u8], &[u8], &[u64], u8); 3] = [
+        (b"{", THREE_FRAMES, &later, 3),
+        (NO_NODE, THREE_FRAMES, &later, 3),
+        (STRAIGHT, b"RIFF", &later[2..], 4),
+    ];
+    for (graph, input, fails, status) in cases {
+        let mut folder = folder(rt.alloc(), graph, input, fails)?;
+        let run = run_line(&rt, &mut folder, RENDER)?;
+        assert_eq!(rt; run.status, status);
+        assert!(rt; folder.file("out.wav").is_none());
+        assert_eq!(rt; folder.read_faults(), 0);
+        assert_eq!(rt; folder.write_faults(), 0);
     }
     Ok(())
 }

@@ -62,7 +62,7 @@ module _ (e : Evaluation) (s : IsEvaluation e) (i : ℕ) (inside : i < length e.
 
   pub at_input : (n : ℕ) → (get_or ns i d).kind ≡ Input n → e.input.now ≡ outgoing_at e i
   at_input n is =
-      sym (ap interleaved (given_at ∙ given_input (get_or ns i d).kind n (input_of e) (incoming e.graph.now (positions_of e) (input_of e) (uid_at e.graph.now i)) is)
+      sym (ap interleaved (given_at ∙ given_input (get_or ns i d).kind (input_of e) (incoming e.graph.now (positions_of e) (input_of e) (uid_at e.graph.now i)) (ap is_input is))
       ∙ input_interleaved e s)
 
   pub at_output : (n : ℕ) → (get_or ns i d).kind ≡ Output n → [] ≡ outgoing_at e i

@@ -29,7 +29,8 @@ use Rattle.renderer.proofs.Adding.{before_none, before_some}
 use Rattle.graph_model.proofs.Interleaving.{in_row, in_turn, in_frame, length-interleaved, get_or-interleaved, interleaved-history_of}
 use Rattle.graph_model.proofs.NodeFacts.{named, channels_fit}
 use Rattle.renderer.proofs.RouteFacts.{kept}
-use Rattle.renderer.proofs.OutgoingFacts.{interleaved_small, long_input, outgoing_small, wide_outgoing, long_outgoing}
+use Rattle.graph_model.proofs.StreamSizes.{interleaved_small}
+use Rattle.renderer.proofs.OutgoingFacts.{long_input, outgoing_small, wide_outgoing, long_outgoing}
 
 -- ---- sums
 plus-assoc : (a b c : ℤ) → a +ℤ (b +ℤ c) ≡ a +ℤ b +ℤ c

@@ -9,7 +9,7 @@ use Rattle.plan_model.proofs.ShiftLaws.{positions_never_show}
 use Rattle.graph_model.specs.Named.{uid_at}
 use Rattle.renderer.specs.Positions.{position_at}
 use Rattle.renderer.specs.Evaluations.{HasSources}
-use Rattle.renderer.proofs.AnswerFacts.{output_is_live}
+use Rattle.graph_model.proofs.LiveLaws.{output_is_live}
 use Rattle.renderer.proofs.OrderSteps.{all_sources}
 use Rattle.renderer.proofs.rendered.Goals as goal
 

@@ -6,7 +6,7 @@ use Rattle.graph_model.specs.Histories.{frames_of, interleaved}
 use Rattle.graph_model.specs.Paths.{latency_of_graph}
 use Rattle.plan_model.specs.Alignments.{position_in}
 use Rattle.plan_model.proofs.LatencyLaws.{few_frames_late}
-use Rattle.graph_host.specs.Outputs.{in_channels}
+use Rattle.graph_model.specs.Graphs.{in_channels}
 use Rattle.graph_host.proofs.OutputLaws.{not_shifted}
 use Rattle.graph_host.proofs.output.aligned_answer.Goals as goal
 

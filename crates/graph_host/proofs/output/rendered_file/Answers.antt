@@ -4,18 +4,13 @@ use Rattle.graph_model.specs.Answers.{answer}
 use Rattle.wav_pcm.specs.Heads.{head_of}
 use Rattle.std.proofs.Math.Nat.{mul-le-mul_right}
 use Rattle.graph_host.specs.Forms.{written_frames}
-use Rattle.graph_host.specs.Outputs.{in_channels}
+use Rattle.graph_model.specs.Graphs.{in_channels}
 use Rattle.graph_host.proofs.ChannelLaws.{ins_range}
-use Rattle.graph_host.proofs.OutputLaws.{whole_frames, few_frames, few_samples, file_is, length-made}
+use Rattle.graph_host.proofs.OutputLaws.{whole_frames, few_frames, file_is, length-made}
 use Rattle.graph_host.proofs.output.rendered_file.Goals as goal
 
 pub aligned_answer-requires-clause-whole : goal.aligned_answer-requires-clause-whole
 aligned_answer-requires-clause-whole c = rw c.as_slice.ensures.value (whole_frames c.args.graph.now c.args.recording.now.form.frames c.args.recording.now.samples.items c.requires.whole)
-
-pub aligned_answer-requires-clause-few : goal.aligned_answer-requires-clause-few
-aligned_answer-requires-clause-few c =
-    subst (λ (xs : List ℤ). length xs < 2 ^ 40) (sym c.as_slice.ensures.value)
-    (few_samples c.args.graph.now c.args.recording.now.form c.args.recording.now.samples.items (ins_range c.args.graph.now c.requires.sound).1 c.requires.few.0 c.requires.whole)
 
 pub without_first-requires : goal.without_first-requires
 without_first-requires c =

@@ -4,7 +4,7 @@ use Rattle.std.proofs.lemmas.List.{length-append, length-replicate}
 use Rattle.std.proofs.lemmas.List.Elements.{All-append, All-replicate}
 use Rattle.gh_outside.specs.Holdings.{Holding, HeldBytes}
 use Rattle.wav_pcm.specs.Files.{recorded}
-use Rattle.graph_host.specs.Outputs.{in_channels}
+use Rattle.graph_model.specs.Graphs.{in_channels}
 use Rattle.graph_host.proofs.EndLaws.{found_more}
 use Rattle.graph_host.proofs.recordings.recording_under.Goals as goal
 
