@@ -9,13 +9,15 @@ use Rattle.graph_model.specs.QuietLaws.{biquad-cons}
 use Rattle.graph_model.specs.Ranges.{HasRange}
 use Rattle.graph_model.specs.declared.kind.Kind.{Kind}
 use Rattle.graph_model.specs.declared.graph.Bound.{Bound}
-use Rattle.fixed_kernels.specs.Kernels.{Stands, new_kernel, IsBoundOf, IsFrameWithin, IsKernel}
+use Rattle.graph_model.specs.Kernels.{new_kernel, IsBoundOf, IsFrameWithin}
+use Rattle.graph_model.proofs.PlanarLaws.{on_each_at, on_each_is}
+use Rattle.fixed_kernels.specs.Kernels.{Keeps, IsKernel, IsNextFrame}
 use Rattle.fixed_kernels.specs.Sections.{coefficients, section_kind, silent_tail, tail_at, last_ins, last_outs, next_out, next_tail, AreStepped}
 use Rattle.fixed_kernels.specs.States.{biquad_state}
 use Rattle.fixed_kernels.specs.declared.section.Section.{Section}
 use Rattle.fixed_kernels.specs.declared.section.Tail.{Tail}
-use Rattle.fixed_kernels.proofs.ChannelFacts.{on_each_at, on_each_is, map-copies}
-use Rattle.fixed_kernels.proofs.KernelFacts.{Frames, frames, next_kernel, new_is_kernel}
+use Rattle.fixed_kernels.proofs.ChannelFacts.{map-copies}
+use Rattle.fixed_kernels.proofs.KernelFacts.{frames, next_kernel, new_is_kernel}
 
 -- the last two samples, one by one
 window-two : (xs : List ℤ) → window 2 xs ≡ ago xs 0 ∷ ago xs 1 ∷ []
@@ -56,7 +58,7 @@ tail_next s t x xs is = record { x1 = refl; x2 = is.x1; y1 = next_out_is s t x x
 
 -- the tails of all channels are what a biquad keeps
 module _ (s : Section) (bound : Bound) (tails : List Tail) (h : History) where
-  pub tails_stand : ((c : ℕ) → c < length tails → IsTailOf (coefficients s) (tail_at tails c) (channel c h)) → Stands (biquad_state s bound tails) h
+  pub tails_stand : ((c : ℕ) → c < length tails → IsTailOf (coefficients s) (tail_at tails c) (channel c h)) → Keeps (biquad_state s bound tails) h
   tails_stand is =
       let n : ℕ = length tails in
       let ins : last_ins tails ≡ windows (length tails) 2 h =
@@ -70,7 +72,7 @@ module _ (s : Section) (bound : Bound) (tails : List Tail) (h : History) where
       ∙ (λ i. pair ((is c lt).y1 i) ((is c lt).y2 i)) ∙ sym (last_two (length tails) (biquad_of (coefficients s)) refl c lt h)) in
       λ i. record { ins = ins i; outs = outs i; scales = []; lowests = [] }
 
-  pub tails_are : Stands (biquad_state s bound tails) h → (c : ℕ) → c < length tails → IsTailOf (coefficients s) (tail_at tails c) (channel c h)
+  pub tails_are : Keeps (biquad_state s bound tails) h → (c : ℕ) → c < length tails → IsTailOf (coefficients s) (tail_at tails c) (channel c h)
   tails_are stands c lt =
       let ins : pair (tail_at tails c).x1 (tail_at tails c).x2 ≡ pair (ago (channel c h) 0) (ago (channel c h) 1) =
       sym (get_or-map (λ (t : Tail). pair t.x1 t.x2) tails c silent_tail [] lt) ∙ ap (λ (k : Kept). get_or k.ins c []) stands
@@ -104,7 +106,7 @@ module _ (s : Section) (n : ℕ) (kind : Kind) (bound : Bound) (tails : List Tai
 
 module _ (s : Section) (bound : Bound) (tails : List Tail) (kernel : IsKernel (biquad_state s bound tails))
     (f : Frame) (first : IsFrameWithin bound.ins f) (new : List Tail) (moved : AreStepped s tails f new) where
-  pub biquad_stands : (h : History) → Stands (biquad_state s bound tails) h → Stands (biquad_state s bound new) (f ∷ h)
+  pub biquad_stands : (h : History) → Keeps (biquad_state s bound tails) h → Keeps (biquad_state s bound new) (f ∷ h)
   biquad_stands h stands =
       tails_stand s bound new (f ∷ h)
       (λ c lt.
@@ -119,7 +121,7 @@ module _ (s : Section) (bound : Bound) (tails : List Tail) (kernel : IsKernel (b
 
   pub biquad_frames : (outs : Frame) → length outs ≡ length tails
       → ((c : ℕ) → c < length tails → get_or outs c (pos 0) ≡ next_out s (tail_at tails c) (get_or f c (pos 0)))
-      → Frames (biquad_state s bound tails) (biquad_state s bound new) f outs
+      → IsNextFrame (biquad_state s bound tails) (biquad_state s bound new) f outs
   biquad_frames outs same values =
       frames (biquad_state s bound tails) (biquad_state s bound new) kernel refl f outs first
       (ap (λ n. section_kind n s) moved.count) refl biquad_stands

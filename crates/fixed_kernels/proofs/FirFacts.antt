@@ -9,13 +9,14 @@ use Rattle.graph_model.specs.Ranges.{HasRange}
 use Rattle.graph_model.specs.Rounding.{rounded}
 use Rattle.graph_model.specs.declared.kind.Kind.TheVariants.{Fir}
 use Rattle.graph_model.specs.declared.graph.Bound.{Bound}
-use Rattle.fixed_kernels.specs.Kernels.{Stands, new_kernel, IsBoundOf, IsFrameWithin, IsKernel}
+use Rattle.graph_model.specs.Kernels.{new_kernel, IsBoundOf, IsFrameWithin}
+use Rattle.graph_model.proofs.PlanarLaws.{on_each_at, on_each_is}
+use Rattle.fixed_kernels.specs.Kernels.{Keeps, IsKernel, IsNextFrame}
 use Rattle.fixed_kernels.specs.Lines.{line_at, samples_in, AreFull, pushed, ArePushed}
 use Rattle.fixed_kernels.specs.States.{kept_in, fir_state}
 use Rattle.fixed_kernels.proofs.WindowLaws.{products-window}
-use Rattle.fixed_kernels.proofs.ChannelFacts.{on_each_at, on_each_is}
 use Rattle.fixed_kernels.proofs.LineFacts.{line_count, pushed_is, stand_after, silent_stand, silent_full}
-use Rattle.fixed_kernels.proofs.KernelFacts.{Frames, frames, next_fits, next_kernel, new_is_kernel}
+use Rattle.fixed_kernels.proofs.KernelFacts.{frames, next_fits, next_kernel, new_is_kernel}
 
 -- a new one
 module _ (taps : List ℤ) (q l n : ℕ) (bound : Bound) (lines : List (Buffer ℤ))
@@ -34,10 +35,10 @@ module _ (taps : List ℤ) (q l n : ℕ) (bound : Bound) (lines : List (Buffer �
 
 module _ (taps : List ℤ) (q l : ℕ) (bound : Bound) (lines : List (Buffer ℤ)) (kernel : IsKernel (fir_state taps q l bound lines))
     (full : AreFull (length taps) lines) (f : Frame) (first : IsFrameWithin bound.ins f) where
-  stood : (h : History) → Stands (fir_state taps q l bound lines) h → samples_in lines ≡ windows (length lines) (length taps) h
+  stood : (h : History) → Keeps (fir_state taps q l bound lines) h → samples_in lines ≡ windows (length lines) (length taps) h
   stood h stands = ap (λ (k : Kept). k.ins) stands
 
-  filtered_is : (h : History) → Stands (fir_state taps q l bound lines) h → (c : ℕ) → c < length lines
+  filtered_is : (h : History) → Keeps (fir_state taps q l bound lines) h → (c : ℕ) → c < length lines
       → filtered taps q (pushed (get_or f c (pos 0)) (line_at lines c)).items ≡ filtered taps q (channel c (f ∷ h))
   filtered_is h stands c lt =
       ap (filtered taps q) (pushed_is (length taps) (length lines) lines h (stood h stands) f full c lt)
@@ -50,7 +51,7 @@ module _ (taps : List ℤ) (q l : ℕ) (bound : Bound) (lines : List (Buffer ℤ
       (next_fits (fir_state taps q l bound lines) kernel refl f first c)
 
   module _ (new : List (Buffer ℤ)) (moved : ArePushed lines f new) where
-    pub fir_stands : (h : History) → Stands (fir_state taps q l bound lines) h → Stands (fir_state taps q l bound new) (f ∷ h)
+    pub fir_stands : (h : History) → Keeps (fir_state taps q l bound lines) h → Keeps (fir_state taps q l bound new) (f ∷ h)
     fir_stands h stands =
         let after : samples_in new ≡ windows (length lines) (length taps) (f ∷ h)
         = stand_after (length taps) (length lines) lines h (stood h stands) f full new moved in
@@ -63,7 +64,7 @@ module _ (taps : List ℤ) (q l : ℕ) (bound : Bound) (lines : List (Buffer ℤ
 
     pub fir_frames : (outs : Frame) → length outs ≡ length lines
         → ((c : ℕ) → c < length lines → get_or outs c (pos 0) ≡ filtered taps q (pushed (get_or f c (pos 0)) (line_at lines c)).items)
-        → Frames (fir_state taps q l bound lines) (fir_state taps q l bound new) f outs
+        → IsNextFrame (fir_state taps q l bound lines) (fir_state taps q l bound new) f outs
     fir_frames outs same values =
         frames (fir_state taps q l bound lines) (fir_state taps q l bound new) kernel refl f outs first
         (ap (λ n. Fir n taps q l) moved.count) refl fir_stands

@@ -6,9 +6,10 @@ use Rattle.graph_model.specs.Histories.{Frame}
 use Rattle.graph_model.specs.Rounding.{rounded}
 use Rattle.graph_model.specs.declared.kind.Kind.TheVariants.{Gain}
 use Rattle.graph_model.specs.declared.graph.Bound.{Bound}
-use Rattle.fixed_kernels.specs.Kernels.{new_kernel, IsFrameWithin, IsKernel}
-use Rattle.fixed_kernels.proofs.ChannelFacts.{on_each_at, on_each_is}
-use Rattle.fixed_kernels.proofs.KernelFacts.{next_fits, Frames, frames}
+use Rattle.graph_model.specs.Kernels.{new_kernel, IsFrameWithin}
+use Rattle.graph_model.proofs.PlanarLaws.{on_each_at, on_each_is}
+use Rattle.fixed_kernels.specs.Kernels.{IsKernel, IsNextFrame}
+use Rattle.fixed_kernels.proofs.KernelFacts.{next_fits, frames}
 
 module _ (n : ℕ) (g : ℤ) (bound : Bound) (kernel : IsKernel (new_kernel (Gain n g) bound))
     (f : Frame) (count : length f ≡ n) (first : IsFrameWithin bound.ins f) where
@@ -19,7 +20,7 @@ module _ (n : ℕ) (g : ℤ) (bound : Bound) (kernel : IsKernel (new_kernel (Gai
 
   pub gain_frames : (outs : Frame) → length outs ≡ n
       → ((c : ℕ) → c < length f → get_or outs c (pos 0) ≡ rounded (g *ℤ get_or f c (pos 0)) 16)
-      → Frames (new_kernel (Gain n g) bound) (new_kernel (Gain n g) bound) f outs
+      → IsNextFrame (new_kernel (Gain n g) bound) (new_kernel (Gain n g) bound) f outs
   gain_frames outs same values =
       frames (new_kernel (Gain n g) bound) (new_kernel (Gain n g) bound) kernel refl f outs first refl refl
       (λ h stands. refl)

@@ -10,14 +10,15 @@ use Rattle.graph_model.specs.Ranges.{HasRange}
 use Rattle.graph_model.specs.declared.kind.Kind.{Kind}
 use Rattle.graph_model.specs.declared.kind.Kind.TheVariants.{Input, Output, Gain, Mixer, Fir, Biquad, Limiter, Delay, Insert}
 use Rattle.graph_model.specs.declared.graph.Bound.{Bound}
-use Rattle.fixed_kernels.specs.Kernels.{Stands, new_kernel, IsBoundOf, IsFrameWithin, IsKernel}
+use Rattle.graph_model.specs.Kernels.{new_kernel, IsBoundOf, IsFrameWithin}
+use Rattle.graph_model.proofs.PlanarLaws.{on_each_is}
+use Rattle.fixed_kernels.specs.Kernels.{Keeps, IsKernel, IsNextFrame}
 use Rattle.fixed_kernels.specs.Lines.{line_at, samples_in, AreFull, ArePushed}
 use Rattle.fixed_kernels.specs.States.{kept_in, hold_state}
 use Rattle.fixed_kernels.specs.Types.{IsHold}
 use Rattle.fixed_kernels.proofs.WindowLaws.{ago-cons_window}
-use Rattle.fixed_kernels.proofs.ChannelFacts.{on_each_is}
 use Rattle.fixed_kernels.proofs.LineFacts.{line_count, line_is, stand_after, silent_stand, silent_full}
-use Rattle.fixed_kernels.proofs.KernelFacts.{Frames, frames, next_kernel, new_is_kernel}
+use Rattle.fixed_kernels.proofs.KernelFacts.{frames, next_kernel, new_is_kernel}
 
 -- what holds of a delay holds of an insert
 by_hold : (P : Kind → Type 0) → ((n d : ℕ) → P (Delay n d)) → ((n d : ℕ) → P (Insert n d)) → (kind : Kind) → IsHold kind → P kind
@@ -44,7 +45,7 @@ hold_in : (kind : Kind) → IsHold kind → is_input kind ≡ false
 hold_in kind is = by_hold (λ k. is_input k ≡ false) (λ n d. refl) (λ n d. refl) kind is
 
 -- its lines hold what its kind keeps
-hold_stood : (kind : Kind) (bound : Bound) (lines : List (Buffer ℤ)) → IsHold kind → (h : History) → Stands (hold_state kind bound lines) h
+hold_stood : (kind : Kind) (bound : Bound) (lines : List (Buffer ℤ)) → IsHold kind → (h : History) → Keeps (hold_state kind bound lines) h
     → samples_in lines ≡ windows (ins_of kind) (ins_kept kind) h
 hold_stood kind bound lines is h stands = ap (λ (k : Kept). k.ins) (stands ∙ hold_kept kind is h)
 
@@ -71,7 +72,7 @@ module _ (kind : Kind) (bound : Bound) (lines : List (Buffer ℤ)) (is : IsHold 
 
   module _ (full : AreFull (ins_kept kind) lines) (f : Frame) (first : IsFrameWithin bound.ins f)
       (new : List (Buffer ℤ)) (moved : ArePushed lines f new) where
-    pub hold_stands : (h : History) → Stands (hold_state kind bound lines) h → Stands (hold_state kind bound new) (f ∷ h)
+    pub hold_stands : (h : History) → Keeps (hold_state kind bound lines) h → Keeps (hold_state kind bound new) (f ∷ h)
     hold_stands h stands =
         ap (λ (xs : List (List ℤ)). kept_in (outs_of kind) xs)
         (stand_after (ins_kept kind) (ins_of kind) lines h (hold_stood kind bound lines is h stands) f full new moved)
@@ -82,7 +83,7 @@ module _ (kind : Kind) (bound : Bound) (lines : List (Buffer ℤ)) (is : IsHold 
 
     pub hold_frames : (outs : Frame) → length outs ≡ ins_of kind
         → ((c : ℕ) → c < length lines → get_or outs c (pos 0) ≡ ago (get_or f c (pos 0) ∷ (line_at lines c).items) (line_at lines c).capacity)
-        → Frames (hold_state kind bound lines) (hold_state kind bound new) f outs
+        → IsNextFrame (hold_state kind bound lines) (hold_state kind bound new) f outs
     hold_frames outs same values =
         frames (hold_state kind bound lines) (hold_state kind bound new) kernel (hold_in kind is) f outs first refl refl hold_stands
         (λ h stands.

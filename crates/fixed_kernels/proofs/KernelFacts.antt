@@ -1,5 +1,5 @@
 -- What a kernel of any kind owes when a frame comes in.
-use Rattle.std.proofs.Common.{◌≡◌, ℕ, zero, suc, ◌^◌, ◌<◌, ◌≤◌, List, [], ◌∷◌, length, get_or, pos, false, refl, sym, subst, arith, ⊎_elim}
+use Rattle.std.proofs.Common.{◌≡◌, ℕ, ◌^◌, ◌<◌, ◌≤◌, List, [], ◌∷◌, length, get_or, pos, false, refl, sym, subst, arith, ⊎_elim}
 use Rattle.std.specs.Prelude.{unsigned_abs}
 use Rattle.std.specs.List.{All}
 use Rattle.std.proofs.lemmas.Bool.{cases_lt}
@@ -8,16 +8,13 @@ use Rattle.std.proofs.lemmas.List.Elements.{All-get_or}
 use Rattle.graph_model.specs.Histories.{Frame, History}
 use Rattle.graph_model.specs.Kinds.{rule_of}
 use Rattle.graph_model.specs.Graphs.{is_input}
-use Rattle.graph_model.specs.Bounds.{IsWithin}
 use Rattle.graph_model.proofs.BoundLaws.{rule_bounded}
 use Rattle.graph_model.specs.Ranges.{HasRange}
 use Rattle.graph_model.specs.declared.kind.Kind.{Kind}
 use Rattle.graph_model.specs.declared.graph.Bound.{Bound}
-use Rattle.fixed_kernels.specs.Kernels.{KernelState, Stands, new_kernel, IsBoundOf, IsFrameWithin, IsKernel}
-
-pub within-cons : (bs : List ℕ) (f : Frame) (h : History) → IsFrameWithin bs f → IsWithin bs h → IsWithin bs (f ∷ h)
-within-cons bs f h first rest c zero = first c
-within-cons bs f h first rest c (suc k) = rest c k
+use Rattle.graph_model.specs.Kernels.{KernelState, new_kernel, IsBoundOf, IsFrameWithin}
+use Rattle.graph_model.proofs.PlanarLaws.{within-cons}
+use Rattle.fixed_kernels.specs.Kernels.{Keeps, IsKernel, IsNextFrame}
 
 -- the frame that goes out after a history within the bounds is within them
 pub next_within : (k : KernelState) (kernel : IsKernel k) → is_input k.kind ≡ false → (f : Frame) → IsFrameWithin k.bound.ins f
@@ -42,7 +39,7 @@ next_fits k kernel isnt f first c =
 
 -- the kernel that stands for one frame more is a kernel
 pub next_kernel : (k new : KernelState) (kernel : IsKernel k) (f : Frame) → IsFrameWithin k.bound.ins f
-    → new.kind ≡ k.kind → new.bound ≡ k.bound → Stands new (f ∷ kernel.history) → IsKernel new
+    → new.kind ≡ k.kind → new.bound ≡ k.bound → Keeps new (f ∷ kernel.history) → IsKernel new
 next_kernel k new kernel f first kind bound stands = record {
   range = rw kind kernel.range;
   bound = rw (kind, bound) kernel.bound;
@@ -53,7 +50,7 @@ next_kernel k new kernel f first kind bound stands = record {
 
 -- frames that go out as the rule says are within the bounds
 pub outs_within : (k : KernelState) → IsKernel k → is_input k.kind ≡ false → (f outs : Frame) → IsFrameWithin k.bound.ins f
-    → ((h : History) → Stands k h → outs ≡ rule_of k.kind (f ∷ h)) → IsFrameWithin k.bound.outs outs
+    → ((h : History) → Keeps k h → outs ≡ rule_of k.kind (f ∷ h)) → IsFrameWithin k.bound.outs outs
 outs_within k kernel isnt f outs first last =
     subst (λ (g : Frame). IsFrameWithin k.bound.outs g) (sym (last kernel.history kernel.stands)) (next_within k kernel isnt f first)
 
@@ -66,18 +63,11 @@ new_is_kernel kind bound range follows = record {
   within = λ c k. omega arith;
 }
 
--- what a frame f owes that makes a kernel k a kernel new and goes out as outs
-pub record Frames (k new : KernelState) (f outs : Frame) : Type 0 where
-  pub stands : (h : History) → Stands k h → Stands new (f ∷ h)
-  pub last : (h : History) → Stands k h → outs ≡ rule_of k.kind (f ∷ h)
-  pub within : IsFrameWithin k.bound.outs outs
-  pub kind : new.kind ≡ k.kind
-  pub bound : new.bound ≡ k.bound
-
+-- what a frame f leaves that makes a kernel k a kernel new and goes out as outs
 pub frames : (k new : KernelState) → IsKernel k → is_input k.kind ≡ false → (f outs : Frame) → IsFrameWithin k.bound.ins f
     → new.kind ≡ k.kind → new.bound ≡ k.bound
-    → ((h : History) → Stands k h → Stands new (f ∷ h))
-    → ((h : History) → Stands k h → outs ≡ rule_of k.kind (f ∷ h)) → Frames k new f outs
+    → ((h : History) → Keeps k h → Keeps new (f ∷ h))
+    → ((h : History) → Keeps k h → outs ≡ rule_of k.kind (f ∷ h)) → IsNextFrame k new f outs
 frames k new kernel isnt f outs first kind bound stands last = record {
   stands = stands;
   last = last;

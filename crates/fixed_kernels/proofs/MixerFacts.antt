@@ -7,8 +7,9 @@ use Rattle.graph_model.specs.Histories.{Frame}
 use Rattle.graph_model.specs.Rounding.{rounded}
 use Rattle.graph_model.specs.declared.kind.Kind.TheVariants.{Mixer}
 use Rattle.graph_model.specs.declared.graph.Bound.{Bound}
-use Rattle.fixed_kernels.specs.Kernels.{new_kernel, IsFrameWithin, IsKernel}
-use Rattle.fixed_kernels.proofs.KernelFacts.{next_fits, Frames, frames}
+use Rattle.graph_model.specs.Kernels.{new_kernel, IsFrameWithin}
+use Rattle.fixed_kernels.specs.Kernels.{IsKernel, IsNextFrame}
+use Rattle.fixed_kernels.proofs.KernelFacts.{next_fits, frames}
 
 module _ (ins n : ℕ) (gains : List ℤ) (bound : Bound) (kernel : IsKernel (new_kernel (Mixer ins n gains) bound))
     (f : Frame) (first : IsFrameWithin bound.ins f) where
@@ -20,7 +21,7 @@ module _ (ins n : ℕ) (gains : List ℤ) (bound : Bound) (kernel : IsKernel (ne
 
   pub mixer_frames : (outs : Frame) → length outs ≡ n
       → ((o : ℕ) → o < n → get_or outs o (pos 0) ≡ rounded (products (gains_to ins gains o) f) 16)
-      → Frames (new_kernel (Mixer ins n gains) bound) (new_kernel (Mixer ins n gains) bound) f outs
+      → IsNextFrame (new_kernel (Mixer ins n gains) bound) (new_kernel (Mixer ins n gains) bound) f outs
   mixer_frames outs same values =
       frames (new_kernel (Mixer ins n gains) bound) (new_kernel (Mixer ins n gains) bound) kernel refl f outs first refl refl
       (λ h stands. refl)

@@ -1,4 +1,5 @@
 pub mod Kernels
+pub mod Streams
 pub mod Types
 pub mod Lines
 pub mod Sections

@@ -6,7 +6,7 @@ use Rattle.graph_model.specs.declared.kind.Kind.{Kind}
 use Rattle.graph_model.specs.declared.kind.Kind.TheVariants.{Fir}
 use Rattle.graph_model.specs.declared.graph.Bound.{Bound}
 use Rattle.circular_buffer.specs.Buffer.{Buffer}
-use Rattle.fixed_kernels.specs.Kernels.{KernelState}
+use Rattle.graph_model.specs.Kernels.{KernelState}
 use Rattle.fixed_kernels.specs.Lines.{samples_in}
 use Rattle.fixed_kernels.specs.Sections.{last_ins, last_outs, section_kind}
 use Rattle.fixed_kernels.specs.declared.section.Section.{Section}

@@ -1,12 +1,15 @@
-ghost use Rattle.std.specs.Prelude.{◌≡◌, ℕ, ◌<◌, ◌≤◌, ◌∷◌, [], IfOk, length, pos, replicate, slice_index_or};
-ghost use Rattle.graph_model.specs.Histories.{History, newest};
-ghost use Rattle.graph_model.specs.Kinds.{ins_of, outs_of, stream_of};
+//! Biquads.
+
+ghost use Rattle.std.specs.Prelude.{◌≡◌, ℕ, ◌<◌, ◌≤◌, IfOk, length, pos, replicate, slice_index_or};
+ghost use Rattle.graph_model.specs.Kinds.{ins_of};
 ghost use Rattle.graph_model.specs.Ranges.{HasRange};
-ghost use Rattle.fixed_kernels.specs.Kernels.{IsBoundOf, IsFrameWithin, Stands};
+ghost use Rattle.graph_model.specs.Kernels.{IsBoundOf};
+ghost use Rattle.fixed_kernels.specs.Kernels.{IsNew};
+ghost use Rattle.fixed_kernels.specs.Streams.{streams_are_causal, streams_are_quiet};
 ghost use Rattle.fixed_kernels.specs.Sections.{AreStepped, next_out, section_kind, silent_tail, tail_at};
 ghost use Rattle.fixed_kernels.specs.Types.{IsBiquad};
 
-use crate::bounds::copy_of;
+use crate::kernel::Kernel;
 use crate::section::{Section, Tail};
 use graph_model::{Bound, Kind};
 use std::alloc::{AllocError, Global};
@@ -24,7 +27,8 @@ pub struct Biquad {
 }
 
 impl Model for Biquad {
-    ghost use Rattle.fixed_kernels.specs.Kernels.{KernelState, IsKernel};
+    ghost use Rattle.graph_model.specs.Kernels.{KernelState};
+    ghost use Rattle.fixed_kernels.specs.Kernels.{IsKernel};
     ghost use Rattle.fixed_kernels.specs.States.{biquad_state};
 
     ghost Value = { KernelState };
@@ -41,30 +45,25 @@ impl Biquad {
         requires kind { IsBiquad kind.now }
         requires range { HasRange kind.now }
         requires bound { IsBoundOf kind.now bound.now }
-        ensures kind { IfOk result (λ k. k.kind ≡ kind.now) }
-        ensures bound { IfOk result (λ k. k.bound ≡ bound.now) }
-        ensures stands { IfOk result (λ k. Stands k []) }
+        ensures { IfOk result (λ k. IsNew kind.now bound.now k) }
     {
         let tails = silent_tails(alloc, kind.ins() as usize)?;
         Ok(Biquad {
             section: section_of(kind),
-            bound: copy_of(alloc, bound)?,
+            bound: bound.copy(alloc)?,
             tails,
         })
     }
+}
 
-    /// Takes the frame `ins`, one sample for each input channel, and writes to `outs` the frame that goes out then, one
-    /// sample for each output channel. Samples are whole numbers, at most as large in size as their channels' bounds.
-    pub fn frame(&mut self, ins: &[i64], outs: &mut [i64])
-        requires ins { length ins.now ≡ ins_of self.old.kind }
-        requires outs { length outs.old ≡ outs_of self.old.kind }
-        requires within { IsFrameWithin self.old.bound.ins ins.now }
-        ensures stands { (h : History) → Stands self.old h → Stands self.new (ins.now ∷ h) }
-        ensures last { (h : History) → Stands self.old h → outs.new ≡ newest (stream_of self.old.kind (ins.now ∷ h)) }
-        ensures within { IsFrameWithin self.old.bound.outs outs.new }
-        ensures kind { self.new.kind ≡ self.old.kind }
-        ensures bound { self.new.bound ≡ self.old.bound }
-    {
+impl Kernel for Biquad {
+    ghost state = { λ kernel. kernel };
+
+    ghost causal = { streams_are_causal };
+
+    ghost quiet = { streams_are_quiet };
+
+    fn frame(&mut self, ins: &[i64], outs: &mut [i64]) {
         step_each(&self.section, &mut self.tails, ins, outs);
     }
 }

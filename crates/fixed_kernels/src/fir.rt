@@ -1,13 +1,16 @@
-ghost use Rattle.std.specs.Prelude.{◌≡◌, ℕ, ◌<◌, ◌≤◌, ◌^◌, ◌∷◌, [], IfOk, length, pos, slice_index_or, unsigned_abs};
+//! Finite impulse responses.
+
+ghost use Rattle.std.specs.Prelude.{◌≡◌, ℕ, ◌<◌, ◌≤◌, ◌^◌, IfOk, length, pos, slice_index_or, unsigned_abs};
 ghost use Rattle.graph_model.specs.Filters.{filtered, products};
-ghost use Rattle.graph_model.specs.Histories.{History, newest};
-ghost use Rattle.graph_model.specs.Kinds.{ins_of, outs_of, stream_of};
+ghost use Rattle.graph_model.specs.Histories.{newest};
 ghost use Rattle.graph_model.specs.Ranges.{HasRange};
-ghost use Rattle.fixed_kernels.specs.Kernels.{IsBoundOf, IsFrameWithin, Stands};
+ghost use Rattle.graph_model.specs.Kernels.{IsBoundOf};
+ghost use Rattle.fixed_kernels.specs.Kernels.{IsNew};
+ghost use Rattle.fixed_kernels.specs.Streams.{streams_are_causal, streams_are_quiet};
 ghost use Rattle.fixed_kernels.specs.Lines.{AreFull, ArePushed, line_at, pushed};
 ghost use Rattle.fixed_kernels.specs.Types.{IsFir};
 
-use crate::bounds::copy_of;
+use crate::kernel::Kernel;
 use crate::lines::{Line, silent_lines};
 use crate::products::sum_of_products;
 use graph_model::{Bound, Kind, List, rs};
@@ -28,7 +31,8 @@ pub struct Fir {
 
 impl Model for Fir {
     ghost use Rattle.std.specs.Prelude.{length};
-    ghost use Rattle.fixed_kernels.specs.Kernels.{KernelState, IsKernel};
+    ghost use Rattle.graph_model.specs.Kernels.{KernelState};
+    ghost use Rattle.fixed_kernels.specs.Kernels.{IsKernel};
     ghost use Rattle.fixed_kernels.specs.Lines.{AreFull};
     ghost use Rattle.fixed_kernels.specs.States.{fir_state};
 
@@ -46,9 +50,7 @@ impl Fir {
         requires kind { IsFir kind.now }
         requires range { HasRange kind.now }
         requires bound { IsBoundOf kind.now bound.now }
-        ensures kind { IfOk result (λ k. k.kind ≡ kind.now) }
-        ensures bound { IfOk result (λ k. k.bound ≡ bound.now) }
-        ensures stands { IfOk result (λ k. Stands k []) }
+        ensures { IfOk result (λ k. IsNew kind.now bound.now k) }
     {
         let Kind::Fir {
             channels,
@@ -64,23 +66,20 @@ impl Fir {
             taps: taps.copy(alloc)?,
             shift: *shift,
             latency: *latency,
-            bound: copy_of(alloc, bound)?,
+            bound: bound.copy(alloc)?,
             lines,
         })
     }
+}
 
-    /// Takes the frame `ins`, one sample for each input channel, and writes to `outs` the frame that goes out then, one
-    /// sample for each output channel. Samples are whole numbers, at most as large in size as their channels' bounds.
-    pub fn frame(&mut self, ins: &[i64], outs: &mut [i64])
-        requires ins { length ins.now ≡ ins_of self.old.kind }
-        requires outs { length outs.old ≡ outs_of self.old.kind }
-        requires within { IsFrameWithin self.old.bound.ins ins.now }
-        ensures stands { (h : History) → Stands self.old h → Stands self.new (ins.now ∷ h) }
-        ensures last { (h : History) → Stands self.old h → outs.new ≡ newest (stream_of self.old.kind (ins.now ∷ h)) }
-        ensures within { IsFrameWithin self.old.bound.outs outs.new }
-        ensures kind { self.new.kind ≡ self.old.kind }
-        ensures bound { self.new.bound ≡ self.old.bound }
-    {
+impl Kernel for Fir {
+    ghost state = { λ kernel. kernel };
+
+    ghost causal = { streams_are_causal };
+
+    ghost quiet = { streams_are_quiet };
+
+    fn frame(&mut self, ins: &[i64], outs: &mut [i64]) {
         filter_each(self.taps.as_slice(), self.shift, &mut self.lines, ins, outs);
     }
 }

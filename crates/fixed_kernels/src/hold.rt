@@ -1,19 +1,23 @@
-ghost use Rattle.std.specs.Prelude.{◌≡◌, ℕ, ◌<◌, ◌∷◌, [], IfOk, length, pos, slice_index_or};
-ghost use Rattle.graph_model.specs.Histories.{History, ago, newest};
+//! Delays and inserts.
+
+ghost use Rattle.std.specs.Prelude.{◌≡◌, ℕ, ◌<◌, ◌∷◌, IfOk, length, pos, slice_index_or};
+ghost use Rattle.graph_model.specs.Histories.{ago};
 ghost use Rattle.graph_model.specs.Kept.{ins_kept};
-ghost use Rattle.graph_model.specs.Kinds.{ins_of, outs_of, stream_of};
 ghost use Rattle.graph_model.specs.Ranges.{HasRange};
-ghost use Rattle.fixed_kernels.specs.Kernels.{IsBoundOf, IsFrameWithin, Stands};
+ghost use Rattle.graph_model.specs.Kernels.{IsBoundOf};
+ghost use Rattle.fixed_kernels.specs.Kernels.{IsNew};
+ghost use Rattle.fixed_kernels.specs.Streams.{streams_are_causal, streams_are_quiet};
 ghost use Rattle.fixed_kernels.specs.Lines.{ArePushed, line_at};
 ghost use Rattle.fixed_kernels.specs.Types.{IsHold};
 
-use crate::bounds::copy_of;
+use crate::kernel::Kernel;
 use crate::lines::{Line, pass, silent_lines};
 use graph_model::{Bound, Kind};
 use std::alloc::{AllocError, Global};
 use std::marker::Model;
 
 /// A delay or an insert, which gives the samples of each channel some frames late: `y(n) = x(n - d)`, 0 before frame 0.
+/// An insert of 0 frames gives the frame that came in.
 #[derive(Drop)]
 pub struct Hold {
     kind: Kind,
@@ -22,7 +26,8 @@ pub struct Hold {
 }
 
 impl Model for Hold {
-    ghost use Rattle.fixed_kernels.specs.Kernels.{KernelState, IsKernel};
+    ghost use Rattle.graph_model.specs.Kernels.{KernelState};
+    ghost use Rattle.fixed_kernels.specs.Kernels.{IsKernel};
     ghost use Rattle.fixed_kernels.specs.Lines.{AreFull};
     ghost use Rattle.fixed_kernels.specs.States.{hold_state};
     ghost use Rattle.fixed_kernels.specs.Types.{IsHold};
@@ -42,31 +47,25 @@ impl Hold {
         requires kind { IsHold kind.now }
         requires range { HasRange kind.now }
         requires bound { IsBoundOf kind.now bound.now }
-        ensures kind { IfOk result (λ k. k.kind ≡ kind.now) }
-        ensures bound { IfOk result (λ k. k.bound ≡ bound.now) }
-        ensures stands { IfOk result (λ k. Stands k []) }
+        ensures { IfOk result (λ k. IsNew kind.now bound.now k) }
     {
         let lines = silent_lines(alloc, kind.ins() as usize, samples_of(kind))?;
         Ok(Hold {
             kind: kind.copy(alloc)?,
-            bound: copy_of(alloc, bound)?,
+            bound: bound.copy(alloc)?,
             lines,
         })
     }
+}
 
-    /// Takes the frame `ins`, one sample for each input channel, and writes to `outs` the frame that goes out then, one
-    /// sample for each output channel. Samples are whole numbers, at most as large in size as their channels' bounds.
-    /// An insert of 0 frames gives the frame that came in.
-    pub fn frame(&mut self, ins: &[i64], outs: &mut [i64])
-        requires ins { length ins.now ≡ ins_of self.old.kind }
-        requires outs { length outs.old ≡ outs_of self.old.kind }
-        requires within { IsFrameWithin self.old.bound.ins ins.now }
-        ensures stands { (h : History) → Stands self.old h → Stands self.new (ins.now ∷ h) }
-        ensures last { (h : History) → Stands self.old h → outs.new ≡ newest (stream_of self.old.kind (ins.now ∷ h)) }
-        ensures within { IsFrameWithin self.old.bound.outs outs.new }
-        ensures kind { self.new.kind ≡ self.old.kind }
-        ensures bound { self.new.bound ≡ self.old.bound }
-    {
+impl Kernel for Hold {
+    ghost state = { λ kernel. kernel };
+
+    ghost causal = { streams_are_causal };
+
+    ghost quiet = { streams_are_quiet };
+
+    fn frame(&mut self, ins: &[i64], outs: &mut [i64]) {
         pass_each(&mut self.lines, ins, outs);
     }
 }

@@ -2,12 +2,13 @@
 //!
 //! Each kernel is made of a kind and of bounds for its samples, and takes the frames of a stream one by one. It keeps
 //! what the kind keeps of the frames that came in, and so stands for their history: that is one relation for all of
-//! them, `Stands`, over the definitions of `graph_model`. The filters are those of Oppenheim and Schafer, Discrete-Time
+//! them, `Keeps`, over the definitions of `graph_model`. The filters are those of Oppenheim and Schafer, Discrete-Time
 //! Signal Processing: the finite impulse response as a sum of products over a delay line, the biquad in direct form 1.
 //!
 //! It promises that a kernel is made for the empty history, and that each frame that goes out is the last one of the
 //! kind's stream of what came in, for every history; that no output passes its bound where no input does, and that no
-//! sum and no cast loses anything; that a frame takes no memory and is never refused.
+//! sum and no cast loses anything; that a frame takes no memory and is never refused. Two laws hold of every kernel
+//! ([`laws`]): its stream is causal, and quiet.
 //!
 //! Kernels of other crates stand on its delay lines and on its words for kernels.
 //!
@@ -15,10 +16,11 @@
 #![tactic(auto)]
 
 mod biquad;
-mod bounds;
 mod fir;
 mod gain;
 mod hold;
+mod kernel;
+pub mod laws;
 mod lines;
 mod mixer;
 mod products;
@@ -27,9 +29,9 @@ mod section;
 mod tests;
 
 pub use biquad::Biquad;
-pub use bounds::copy_of;
 pub use fir::Fir;
 pub use gain::Gain;
 pub use hold::Hold;
+pub use kernel::Kernel;
 pub use lines::{Line, silent_lines};
 pub use mixer::Mixer;

@@ -1,13 +1,15 @@
-ghost use Rattle.std.specs.Prelude.{◌≡◌, ℕ, ◌<◌, ◌≤◌, ◌*◌, ◌^◌, ◌∷◌, [], IfOk, length, pos, slice_index_or, unsigned_abs};
+//! Mixers.
+
+ghost use Rattle.std.specs.Prelude.{◌≡◌, ℕ, ◌<◌, ◌≤◌, ◌*◌, ◌^◌, IfOk, length, pos, slice_index_or, unsigned_abs};
 ghost use Rattle.graph_model.specs.Filters.{gains_to, products};
-ghost use Rattle.graph_model.specs.Histories.{History, newest};
-ghost use Rattle.graph_model.specs.Kinds.{ins_of, outs_of, stream_of};
 ghost use Rattle.graph_model.specs.Ranges.{HasRange};
 ghost use Rattle.graph_model.specs.Rounding.{rounded};
-ghost use Rattle.fixed_kernels.specs.Kernels.{IsBoundOf, IsFrameWithin, Stands};
+ghost use Rattle.graph_model.specs.Kernels.{IsBoundOf};
+ghost use Rattle.fixed_kernels.specs.Kernels.{IsNew};
+ghost use Rattle.fixed_kernels.specs.Streams.{streams_are_causal, streams_are_quiet};
 ghost use Rattle.fixed_kernels.specs.Types.{IsMixer};
 
-use crate::bounds::copy_of;
+use crate::kernel::Kernel;
 use crate::products::sum_of_products;
 use graph_model::{Bound, Kind, List, rs};
 use std::alloc::{AllocError, Global};
@@ -24,7 +26,8 @@ pub struct Mixer {
 }
 
 impl Model for Mixer {
-    ghost use Rattle.fixed_kernels.specs.Kernels.{KernelState, new_kernel, IsKernel};
+    ghost use Rattle.graph_model.specs.Kernels.{KernelState, new_kernel};
+    ghost use Rattle.fixed_kernels.specs.Kernels.{IsKernel};
     ghost use Rattle.graph_model.specs.declared.kind.Kind.TheVariants as kind;
 
     ghost Value = { KernelState };
@@ -41,9 +44,7 @@ impl Mixer {
         requires kind { IsMixer kind.now }
         requires range { HasRange kind.now }
         requires bound { IsBoundOf kind.now bound.now }
-        ensures kind { IfOk result (λ k. k.kind ≡ kind.now) }
-        ensures bound { IfOk result (λ k. k.bound ≡ bound.now) }
-        ensures stands { IfOk result (λ k. Stands k []) }
+        ensures { IfOk result (λ k. IsNew kind.now bound.now k) }
     {
         let Kind::Mixer { ins, outs, gains } = kind else {
             unreachable!()
@@ -52,22 +53,19 @@ impl Mixer {
             ins: *ins,
             outs: *outs,
             gains: gains.copy(alloc)?,
-            bound: copy_of(alloc, bound)?,
+            bound: bound.copy(alloc)?,
         })
     }
+}
 
-    /// Takes the frame `ins`, one sample for each input channel, and writes to `outs` the frame that goes out then, one
-    /// sample for each output channel. Samples are whole numbers, at most as large in size as their channels' bounds.
-    pub fn frame(&mut self, ins: &[i64], outs: &mut [i64])
-        requires ins { length ins.now ≡ ins_of self.old.kind }
-        requires outs { length outs.old ≡ outs_of self.old.kind }
-        requires within { IsFrameWithin self.old.bound.ins ins.now }
-        ensures stands { (h : History) → Stands self.old h → Stands self.new (ins.now ∷ h) }
-        ensures last { (h : History) → Stands self.old h → outs.new ≡ newest (stream_of self.old.kind (ins.now ∷ h)) }
-        ensures within { IsFrameWithin self.old.bound.outs outs.new }
-        ensures kind { self.new.kind ≡ self.old.kind }
-        ensures bound { self.new.bound ≡ self.old.bound }
-    {
+impl Kernel for Mixer {
+    ghost state = { λ kernel. kernel };
+
+    ghost causal = { streams_are_causal };
+
+    ghost quiet = { streams_are_quiet };
+
+    fn frame(&mut self, ins: &[i64], outs: &mut [i64]) {
         mix(self.gains.as_slice(), ins, outs);
     }
 }

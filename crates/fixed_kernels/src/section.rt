@@ -1,3 +1,5 @@
+//! The second-order section of a biquad.
+
 ghost use Rattle.std.specs.Prelude.{◌≡◌, ◌-◌, ◌≤◌, ◌^◌, ◌+ℤ◌, ◌-ℤ◌, ◌*ℤ◌, ◌≤ℤ◌, neg_ℤ, pos, unsigned_abs};
 ghost use Rattle.graph_model.specs.Rounding.{clamped};
 ghost use Rattle.fixed_kernels.specs.Sections.{next_out, next_tail};

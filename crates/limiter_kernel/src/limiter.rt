@@ -2,11 +2,13 @@
 
 ghost use Rattle.std.specs.Prelude.{◌≡◌, ℕ, ◌<◌, ◌≤◌, ◌^◌, [], ◌∷◌, IfOk, length, pos, slice_index_or, unsigned_abs};
 ghost use Rattle.std.specs.List.{All};
-ghost use Rattle.graph_model.specs.Histories.{History, newest};
-ghost use Rattle.graph_model.specs.Kinds.{ins_of, latency_of, outs_of, stream_of};
+ghost use Rattle.graph_model.specs.Histories.{History};
+ghost use Rattle.graph_model.specs.Kinds.{latency_of};
 ghost use Rattle.graph_model.specs.Ranges.{HasRange};
 ghost use Rattle.limiter_kernel.specs.Gains.{IsQuieter, at_gain, delayed_at};
-ghost use Rattle.fixed_kernels.specs.Kernels.{IsBoundOf, IsFrameWithin, Stands};
+ghost use Rattle.graph_model.specs.Kernels.{IsBoundOf};
+ghost use Rattle.fixed_kernels.specs.Kernels.{IsNew, IsNextFrame, Keeps, TakesFrame};
+ghost use Rattle.fixed_kernels.specs.Streams.{streams_are_causal, streams_are_quiet};
 ghost use Rattle.fixed_kernels.specs.Lines.{ArePushed};
 ghost use Rattle.limiter_kernel.specs.Types.{IsLimiter, threshold_of};
 
@@ -14,7 +16,7 @@ use crate::average::MovingAverage;
 use crate::gain::{UNITY, limited_sample, scale_of};
 use crate::lines::delayed_sample;
 use crate::minimum::SlidingMinimum;
-use fixed_kernels::{Line, copy_of, silent_lines};
+use fixed_kernels::{Kernel, Line, silent_lines};
 use graph_model::{Bound, Kind};
 use std::alloc::{AllocError, Global};
 use std::marker::Model;
@@ -39,7 +41,7 @@ pub struct Limiter {
 }
 
 impl Model for Limiter {
-    ghost use Rattle.fixed_kernels.specs.Kernels.{KernelState};
+    ghost use Rattle.graph_model.specs.Kernels.{KernelState};
     ghost use Rattle.limiter_kernel.specs.States.{AreLimiterFields, limiter_state};
 
     ghost Value = { KernelState };
@@ -56,9 +58,7 @@ impl Limiter {
         requires kind { IsLimiter kind.now }
         requires range { HasRange kind.now }
         requires bound { IsBoundOf kind.now bound.now }
-        ensures kind { IfOk result (λ k. k.kind ≡ kind.now) }
-        ensures bound { IfOk result (λ k. k.bound ≡ bound.now) }
-        ensures stands { IfOk result (λ k. Stands k []) }
+        ensures { IfOk result (λ k. IsNew kind.now bound.now k) }
     {
         let Kind::Limiter {
             channels,
@@ -72,28 +72,28 @@ impl Limiter {
         Ok(Limiter {
             threshold: *threshold,
             lookahead: *lookahead,
-            bound: copy_of(alloc, bound)?,
+            bound: bound.copy(alloc)?,
             lines: silent_lines(alloc, *channels as usize, frames)?,
             scales: SlidingMinimum::new(alloc, frames, UNITY)?,
             lowests: MovingAverage::new(alloc, frames, UNITY)?,
         })
     }
+}
 
-    /// Takes a frame, one sample for each channel, and gives the frame that goes out then. It takes no memory and is
-    /// never refused.
-    pub fn frame(&mut self, ins: &[i64], outs: &mut [i64])
-        requires ins { length ins.now ≡ ins_of self.old.kind }
-        requires outs { length outs.old ≡ outs_of self.old.kind }
-        requires within { IsFrameWithin self.old.bound.ins ins.now }
-        ensures stands { (h : History) → Stands self.old h → Stands self.new (ins.now ∷ h) }
-        ensures last { (h : History) → Stands self.old h → outs.new ≡ newest (stream_of self.old.kind (ins.now ∷ h)) }
-        ensures within { IsFrameWithin self.old.bound.outs outs.new }
-        ensures kind { self.new.kind ≡ self.old.kind }
-        ensures bound { self.new.bound ≡ self.old.bound }
+impl Kernel for Limiter {
+    ghost state = { λ kernel. kernel };
+
+    ghost causal = { streams_are_causal };
+
+    ghost quiet = { streams_are_quiet };
+
+    fn frame(&mut self, ins: &[i64], outs: &mut [i64])
+        requires { TakesFrame self.old ins.now outs.old }
+        ensures next { IsNextFrame self.old self.new ins.now outs.new }
 
         // No output exceeds the threshold, nor the sample that it is made of.
         ensures threshold { All (λ y. unsigned_abs y ≤ threshold_of self.old.kind) outs.new }
-        ensures quieter { (h : History) → Stands self.old h →
+        ensures quieter { (h : History) → Keeps self.old h →
             IsQuieter outs.new (slice_index_or (ins.now ∷ h) (latency_of self.old.kind) []) }
     {
         let lowest = self.scales.push(scale_of(self.threshold, ins));

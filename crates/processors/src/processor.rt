@@ -1,16 +1,14 @@
 //! A processor of any kind.
 
-ghost use Rattle.std.specs.Prelude.{◌≡◌, ◌∷◌, [], IfOk, length};
-ghost use Rattle.fixed_kernels.specs.Kernels.{IsBoundOf, IsFrameWithin, Stands};
-ghost use Rattle.graph_model.specs.Histories.{History, newest};
-ghost use Rattle.graph_model.specs.Kinds.{ins_of, outs_of, stream_of};
+ghost use Rattle.std.specs.Prelude.{IfOk};
+ghost use Rattle.graph_model.specs.Kernels.{IsBoundOf};
+ghost use Rattle.fixed_kernels.specs.Kernels.{IsNew};
+ghost use Rattle.fixed_kernels.specs.Streams.{streams_are_causal, streams_are_quiet};
 ghost use Rattle.graph_model.specs.Ranges.{HasRange};
-ghost use Rattle.processors.specs.States.{IsNew, state_of};
-ghost use Rattle.processors.specs.Streams.{streams_are_causal, streams_are_quiet};
+ghost use Rattle.processors.specs.States.{state_of};
 ghost use Rattle.processors.specs.Types.{IsBetweenEnds};
 
-use crate::kernel::Kernel;
-use fixed_kernels::{Biquad, Fir, Gain, Hold, Mixer};
+use fixed_kernels::{Biquad, Fir, Gain, Hold, Kernel, Mixer};
 use graph_model::{Bound, Kind};
 use limiter_kernel::Limiter;
 use std::alloc::{AllocError, Global};
@@ -34,7 +32,7 @@ pub struct Processor {
 }
 
 impl Model for Processor {
-    ghost use Rattle.fixed_kernels.specs.Kernels.{KernelState};
+    ghost use Rattle.graph_model.specs.Kernels.{KernelState};
     ghost use Rattle.processors.specs.States.{state_of};
 
     ghost Value = { KernelState };
@@ -49,34 +47,10 @@ impl Processor {
         requires kind { IsBetweenEnds kind.now }
         requires range { HasRange kind.now }
         requires bound { IsBoundOf kind.now bound.now }
-        ensures kind { IfOk result (λ k. k.kind ≡ kind.now) }
-        ensures bound { IfOk result (λ k. k.bound ≡ bound.now) }
-        ensures stands { IfOk result (λ k. Stands k []) }
+        ensures { IfOk result (λ k. IsNew kind.now bound.now k) }
     {
         let server = server_of(alloc, kind, bound)?;
         Ok(Processor { server })
-    }
-
-    /// Takes a frame, one sample for each input channel, and gives the frame that goes out then, one sample for each
-    /// output channel. It takes no memory and is never refused.
-    pub fn frame(&mut self, ins: &[i64], outs: &mut [i64])
-        requires ins { length ins.now ≡ ins_of self.old.kind }
-        requires outs { length outs.old ≡ outs_of self.old.kind }
-        requires within { IsFrameWithin self.old.bound.ins ins.now }
-        ensures stands { (h : History) → Stands self.old h → Stands self.new (ins.now ∷ h) }
-        ensures last { (h : History) → Stands self.old h → outs.new ≡ newest (stream_of self.old.kind (ins.now ∷ h)) }
-        ensures within { IsFrameWithin self.old.bound.outs outs.new }
-        ensures kind { self.new.kind ≡ self.old.kind }
-        ensures bound { self.new.bound ≡ self.old.bound }
-    {
-        match &mut self.server {
-            Server::Gain(gain) => gain.frame(ins, outs),
-            Server::Mixer(mixer) => mixer.frame(ins, outs),
-            Server::Fir(fir) => fir.frame(ins, outs),
-            Server::Biquad(biquad) => biquad.frame(ins, outs),
-            Server::Hold(hold) => hold.frame(ins, outs),
-            Server::Limiter(limiter) => limiter.frame(ins, outs),
-        }
     }
 }
 
@@ -88,7 +62,14 @@ impl Kernel for Processor {
     ghost quiet = { streams_are_quiet };
 
     fn frame(&mut self, ins: &[i64], outs: &mut [i64]) {
-        Processor::frame(self, ins, outs);
+        match &mut self.server {
+            Server::Gain(gain) => gain.frame(ins, outs),
+            Server::Mixer(mixer) => mixer.frame(ins, outs),
+            Server::Fir(fir) => fir.frame(ins, outs),
+            Server::Biquad(biquad) => biquad.frame(ins, outs),
+            Server::Hold(hold) => hold.frame(ins, outs),
+            Server::Limiter(limiter) => limiter.frame(ins, outs),
+        }
     }
 }
 

@@ -4,13 +4,13 @@ use Rattle.circular_buffer.specs.Buffer.{Buffer}
 use Rattle.graph_model.specs.Filters.{filtered}
 use Rattle.graph_model.specs.Histories.{Frame}
 use Rattle.graph_model.specs.Kinds.{outs_of}
-use Rattle.fixed_kernels.specs.Kernels.{KernelState, IsFrameWithin}
+use Rattle.graph_model.specs.Kernels.{KernelState, IsFrameWithin}
+use Rattle.fixed_kernels.specs.Kernels.{IsNextFrame}
 use Rattle.fixed_kernels.specs.Lines.{ArePushed, line_at, pushed}
 use Rattle.fixed_kernels.specs.States.{fir_state}
-use Rattle.fixed_kernels.proofs.KernelFacts.{Frames}
 use Rattle.fixed_kernels.proofs.LineFacts.{full_after}
 use Rattle.fixed_kernels.proofs.FirFacts.{fir_fits, fir_frames, fir_kernel}
-use Rattle.fixed_kernels.proofs.fir.Fir.frame.Goals as goal
+use Rattle.fixed_kernels.proofs.fir.FirKernel.frame.Goals as goal
 
 pub filter_each-requires-clause-fits : goal.filter_each-requires-clause-fits
 filter_each-requires-clause-fits c =
@@ -57,5 +57,5 @@ returns c =
     → get_or outs d (pos 0) ≡ filtered ts k.shift (pushed (get_or f d (pos 0)) (line_at c.deref_mut.result.now d)).items) c.as_slice.ensures
     c.filter_each.ensures.values) in
     let inside = fir_frames taps k.shift k.latency k.bound lines inv.0 inv.1 f first new moved outs same values in
-    let seen = subst (λ (v : KernelState). Frames v (fir_state taps k.shift k.latency k.bound new) f outs) c.self.view_is inside in
-    rw back (record { stands = seen.stands; last = seen.last; within = seen.within; kind = seen.kind; bound = seen.bound })
+    let seen = subst (λ (v : KernelState). IsNextFrame v (fir_state taps k.shift k.latency k.bound new) f outs) c.self.view_is inside in
+    rw back seen

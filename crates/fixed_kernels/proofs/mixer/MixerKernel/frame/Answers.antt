@@ -3,10 +3,10 @@ use Rattle.graph_model.specs.Filters.{products, gains_to}
 use Rattle.graph_model.specs.Histories.{Frame}
 use Rattle.graph_model.specs.Kinds.{ins_of, outs_of}
 use Rattle.graph_model.specs.Rounding.{rounded}
-use Rattle.fixed_kernels.specs.Kernels.{KernelState, IsFrameWithin}
-use Rattle.fixed_kernels.proofs.KernelFacts.{Frames}
+use Rattle.graph_model.specs.Kernels.{KernelState, IsFrameWithin}
+use Rattle.fixed_kernels.specs.Kernels.{IsNextFrame}
 use Rattle.fixed_kernels.proofs.MixerFacts.{mixer_fits, mixer_frames}
-use Rattle.fixed_kernels.proofs.mixer.Mixer.frame.Goals as goal
+use Rattle.fixed_kernels.proofs.mixer.MixerKernel.frame.Goals as goal
 
 pub mix-requires-clause-fits : goal.mix-requires-clause-fits
 mix-requires-clause-fits c = λ o lt.
@@ -33,5 +33,5 @@ returns c =
     (subst (λ (gs : List ℤ). get_or outs o (pos 0) ≡ rounded (products (gains_to (length f) gs o) f) 16) c.as_slice.ensures
     (c.mix.ensures o (omega (arith, c.mix.auto.outs, same)))) in
     let inside = mixer_frames k.ins k.outs gains k.bound c.self.invariant f first outs same values in
-    let seen = subst (λ (v : KernelState). Frames v v f outs) c.self.view_is inside in
-    record { stands = seen.stands; last = seen.last; within = seen.within; kind = seen.kind; bound = seen.bound }
+    let seen = subst (λ (v : KernelState). IsNextFrame v v f outs) c.self.view_is inside in
+    seen

@@ -3,13 +3,13 @@ use Rattle.std.proofs.lemmas.List.{take_at}
 use Rattle.circular_buffer.specs.Buffer.{Buffer}
 use Rattle.graph_model.specs.Histories.{Frame, ago}
 use Rattle.graph_model.specs.Kinds.{ins_of, outs_of}
-use Rattle.fixed_kernels.specs.Kernels.{KernelState, IsFrameWithin}
+use Rattle.graph_model.specs.Kernels.{KernelState, IsFrameWithin}
+use Rattle.fixed_kernels.specs.Kernels.{IsNextFrame}
 use Rattle.fixed_kernels.specs.Lines.{ArePushed, line_at}
 use Rattle.fixed_kernels.specs.States.{hold_state}
-use Rattle.fixed_kernels.proofs.KernelFacts.{Frames}
 use Rattle.fixed_kernels.proofs.LineFacts.{full_after}
 use Rattle.fixed_kernels.proofs.HoldFacts.{hold_count, hold_frames, hold_kernel, hold_outs}
-use Rattle.fixed_kernels.proofs.hold.Hold.frame.Goals as goal
+use Rattle.fixed_kernels.proofs.hold.HoldKernel.frame.Goals as goal
 
 pub pass_each-requires-clause-ins : goal.pass_each-requires-clause-ins
 pass_each-requires-clause-ins c =
@@ -59,5 +59,5 @@ returns c =
     → get_or outs d (pos 0) ≡ ago (get_or f d (pos 0) ∷ (line_at ls d).items) (line_at ls d).capacity)
     c.deref_mut.ensures.value c.pass_each.ensures.values in
     let inside = hold_frames k.kind k.bound lines inv.0 inv.1 inv.2 f first new moved outs same values in
-    let seen = subst (λ (v : KernelState). Frames v (hold_state k.kind k.bound new) f outs) c.self.view_is inside in
-    rw back (record { stands = seen.stands; last = seen.last; within = seen.within; kind = seen.kind; bound = seen.bound })
+    let seen = subst (λ (v : KernelState). IsNextFrame v (hold_state k.kind k.bound new) f outs) c.self.view_is inside in
+    rw back seen

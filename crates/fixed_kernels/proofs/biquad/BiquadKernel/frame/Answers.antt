@@ -2,14 +2,14 @@ use Rattle.std.proofs.Common.{◌≡◌, ℕ, ◌++◌, ◌<◌, length, take, d
 use Rattle.std.proofs.lemmas.List.{take_at}
 use Rattle.graph_model.specs.Histories.{Frame}
 use Rattle.graph_model.specs.Kinds.{outs_of}
-use Rattle.fixed_kernels.specs.Kernels.{KernelState, IsFrameWithin}
+use Rattle.graph_model.specs.Kernels.{KernelState, IsFrameWithin}
+use Rattle.fixed_kernels.specs.Kernels.{IsNextFrame}
 use Rattle.fixed_kernels.specs.Sections.{AreStepped, next_out, tail_at}
 use Rattle.fixed_kernels.specs.States.{biquad_state}
 use Rattle.fixed_kernels.specs.declared.section.Section.{Section}
 use Rattle.fixed_kernels.specs.declared.section.Tail.{Tail}
-use Rattle.fixed_kernels.proofs.KernelFacts.{Frames}
 use Rattle.fixed_kernels.proofs.BiquadFacts.{biquad_frames, biquad_kernel}
-use Rattle.fixed_kernels.proofs.biquad.Biquad.frame.Goals as goal
+use Rattle.fixed_kernels.proofs.biquad.BiquadKernel.frame.Goals as goal
 
 pub invariant_of-self : goal.invariant_of-self
 invariant_of-self c =
@@ -41,6 +41,6 @@ returns c =
     let values = subst (λ (ts : List Tail). (d : ℕ) → d < length ts → get_or outs d (pos 0) ≡ next_out s (tail_at ts d) (get_or f d (pos 0)))
     c.deref_mut.ensures.value c.step_each.ensures.values in
     let inside = biquad_frames s k.bound tails c.self.invariant f first new moved outs same values in
-    let seen = subst (λ (v : KernelState). Frames v (biquad_state s k.bound new) f outs) c.self.view_is inside in
-    let written = subst (λ (ts : List Tail). Frames c.args.self.now (biquad_state s k.bound ts) f outs) (sym back) seen in
-    record { stands = written.stands; last = written.last; within = written.within; kind = written.kind; bound = written.bound }
+    let seen = subst (λ (v : KernelState). IsNextFrame v (biquad_state s k.bound new) f outs) c.self.view_is inside in
+    let written = subst (λ (ts : List Tail). IsNextFrame c.args.self.now (biquad_state s k.bound ts) f outs) (sym back) seen in
+    written

@@ -2,10 +2,10 @@ use Rattle.std.proofs.Common.{rules, ◌≡◌, length, sym, ap, ◌∙◌, subs
 use Rattle.std.proofs.lemmas.Int.{to_z-of_z}
 use Rattle.graph_model.specs.Histories.{Frame}
 use Rattle.graph_model.specs.Kinds.{ins_of, outs_of}
-use Rattle.fixed_kernels.specs.Kernels.{KernelState, IsFrameWithin}
-use Rattle.fixed_kernels.proofs.KernelFacts.{Frames}
+use Rattle.graph_model.specs.Kernels.{KernelState, IsFrameWithin}
+use Rattle.fixed_kernels.specs.Kernels.{IsNextFrame}
 use Rattle.fixed_kernels.proofs.GainFacts.{gain_fits, gain_frames}
-use Rattle.fixed_kernels.proofs.gain.Gain.frame.Goals as goal
+use Rattle.fixed_kernels.proofs.gain.GainKernel.frame.Goals as goal
 
 pub scale-requires-clause-fits : goal.scale-requires-clause-fits
 scale-requires-clause-fits c =
@@ -27,5 +27,5 @@ returns c =
     let fits : FitsSigned w32 k.gain = search rules in
     let values = rw (to_z-of_z w32 k.gain fits) at c.scale.ensures in
     let inside = gain_frames k.channels k.gain k.bound c.self.invariant f count first outs same values in
-    let seen = subst (λ (v : KernelState). Frames v v f outs) c.self.view_is inside in
-    record { stands = seen.stands; last = seen.last; within = seen.within; kind = seen.kind; bound = seen.bound }
+    let seen = subst (λ (v : KernelState). IsNextFrame v v f outs) c.self.view_is inside in
+    seen
