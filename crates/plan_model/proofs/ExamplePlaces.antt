@@ -12,11 +12,11 @@ use Rattle.graph_model.proofs.PathLaws.{any_at, same_name, and_both}
 use Rattle.plan_model.specs.Flows.{IsBeforeArc, arc_between}
 use Rattle.plan_model.specs.Schedules.{IsSchedule}
 use Rattle.plan_model.specs.Lives.{AreValues, ports_of}
-use Rattle.plan_model.specs.Certified.{AreLiveNodes}
+use Rattle.plan_model.specs.Rules.{AreLiveNodes}
 use Rattle.plan_model.specs.Places.{IsNo, IsStep, IsArcAt, IsNextWave, IsWaveAt, same_port}
 use Rattle.plan_model.specs.declared.plan.Plan.{Plan}
-use Rattle.plan_model.specs.declared.plan.Rule.TheVariants.{At, Path, Arcs, Waves, Homes}
-use Rattle.plan_model.specs.declared.plan.Wave.{Wave}
+use Rattle.plan_model.specs.declared.rule.Rule.TheVariants.{At, Path, Arcs, Waves, Homes}
+use Rattle.plan_model.specs.declared.schedule.Wave.{Wave}
 use Rattle.plan_model.proofs.Examples.{name, stands, arc, wave, home}
 use Rattle.plan_model.proofs.ExampleTools.{rising, not_among}
 use Rattle.plan_model.proofs.ExampleRules.{earlier, first_bad}

@@ -5,11 +5,12 @@ use Rattle.std.proofs.lemmas.Bool.{cases_eq}
 use Rattle.std.proofs.lemmas.List.{get_or-take, length-take}
 use Rattle.std.proofs.lemmas.List.Elements.{All-from_recursion}
 use Rattle.graph_model.specs.declared.graph.Graph.{Graph}
-use Rattle.plan_model.specs.Certified.{Holds, number}
+use Rattle.plan_model.specs.Rules.{number}
+use Rattle.plan_model.specs.Certified.{Holds}
 use Rattle.plan_model.specs.Places.{IsFirstBad}
 use Rattle.plan_model.specs.declared.plan.Plan.{Plan}
-use Rattle.plan_model.specs.declared.plan.Rule.{Rule}
-use Rattle.plan_model.specs.declared.plan.Rule.TheVariants.{At, Input, Alignment, Latency, Lines, Total, Path, Longest, Arcs, Need, Bound, Least, Waves, Homes, Channels, Peak}
+use Rattle.plan_model.specs.declared.rule.Rule.{Rule}
+use Rattle.plan_model.specs.declared.rule.Rule.TheVariants.{At, Input, Alignment, Latency, Lines, Total, Path, Longest, Arcs, Need, Bound, Least, Waves, Homes, Channels, Peak}
 
 abbrev pub rules : List Rule
 rules = At ∷ Input ∷ Alignment ∷ Latency ∷ Lines ∷ Total ∷ Path ∷ Longest ∷ Arcs ∷ Need ∷ Bound ∷ Least ∷ Waves ∷ Homes ∷ Channels ∷ Peak ∷ []
@@ -36,11 +37,14 @@ at_number Channels = (omega arith, refl)
 at_number Peak = (omega arith, refl)
 
 -- the proofs of the rules before one, in their order
-pub earlier : (g : Graph) (plan : Plan) (rule : Rule) → AllByRecursion (Holds g plan) (take (number rule) rules) → (r : Rule) → number r < number rule → Holds g plan r
-earlier g plan rule h r l =
+pub earlier_by : (H : Rule → Type 0) (rule : Rule) → AllByRecursion H (take (number rule) rules) → (r : Rule) → number r < number rule → H r
+earlier_by H rule h r l =
     let within = (at_number r).0 in
-    subst (Holds g plan) (get_or-take (number rule) rules (number r) r l ∙ (at_number r).1)
-    (All-from_recursion (Holds g plan) (take (number rule) rules) h (number r) r (omega (arith, length-take (number rule) rules, (at_number rule).0)))
+    subst H (get_or-take (number rule) rules (number r) r l ∙ (at_number r).1)
+    (All-from_recursion H (take (number rule) rules) h (number r) r (omega (arith, length-take (number rule) rules, (at_number rule).0)))
+
+pub earlier : (g : Graph) (plan : Plan) (rule : Rule) → AllByRecursion (Holds g plan) (take (number rule) rules) → (r : Rule) → number r < number rule → Holds g plan r
+earlier g plan rule h = earlier_by (Holds g plan) rule h
 
 abbrev pub AllBelow : (ℕ → Type 0) → ℕ → Type 0
 AllBelow P zero = Unit {0}

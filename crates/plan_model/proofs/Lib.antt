@@ -7,6 +7,7 @@ pub mod ExampleSchedules
 pub mod ExampleOrders
 pub mod ExampleBuffers
 pub mod SumLaws
+pub mod NetworkLaws
 pub mod DualityLaws
 pub mod Below
 pub mod Bound
@@ -25,3 +26,7 @@ pub mod UniqueLaws
 pub mod Distinct
 pub mod WaveLaws
 pub mod LatencyLaws
+pub mod LastLaws
+pub mod ValueLaws
+pub mod BestLaws
+pub mod MakeLaws

@@ -20,7 +20,7 @@ use Rattle.graph_model.proofs.RankLaws.{sound_is_ranked}
 use Rattle.graph_model.proofs.ReachLaws.{filter_has, filter_from}
 use Rattle.plan_model.specs.Schedules.{IsSchedule, names, wave_of}
 use Rattle.plan_model.specs.Places.{IsNextWave, IsWaveAt, WavesByEntries}
-use Rattle.plan_model.specs.declared.plan.Wave.{Wave}
+use Rattle.plan_model.specs.declared.schedule.Wave.{Wave}
 use Rattle.plan_model.proofs.Below.{count_by-cons}
 use Rattle.plan_model.proofs.CertifiedLaws.{in_wave, stands_in}
 use Rattle.plan_model.proofs.Counts.{bit}
