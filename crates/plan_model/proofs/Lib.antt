@@ -15,6 +15,7 @@ pub mod LowerBound
 pub mod Saved
 pub mod CertifiedLaws
 pub mod ShiftLaws
+pub mod RefusalLaws
 pub mod ExampleRules
 pub mod ExampleStraight
 pub mod ExamplePlan
@@ -30,3 +31,8 @@ pub mod LastLaws
 pub mod ValueLaws
 pub mod BestLaws
 pub mod MakeLaws
+pub mod GraphTwins
+pub mod ScheduleLaws
+pub mod OneLaws
+pub mod HomeLaws
+pub mod SizeLaws

@@ -15,7 +15,7 @@ use Rattle.plan_model.specs.Schedules.{IsSchedule}
 use Rattle.plan_model.specs.Lives.{Port, AreValues, values, lives_of, life_of, ports_of}
 use Rattle.plan_model.specs.Buffers.{IsAssignment}
 use Rattle.plan_model.specs.Certified.{IsCertified, positions, parts, AreArcs}
-use Rattle.plan_model.specs.Results.{IsAligned}
+use Rattle.plan_model.specs.Results.{PartsAreCertified}
 use Rattle.plan_model.specs.Rules.{AreLiveNodes, IsPeak, Parts, HoldsBy, AllHold}
 use Rattle.plan_model.specs.declared.plan.Plan.{Plan}
 use Rattle.plan_model.specs.declared.buffers.Life.{Life}
@@ -24,24 +24,8 @@ use Rattle.plan_model.specs.declared.alignment.LineAt.{LineAt}
 use Rattle.plan_model.specs.declared.rule.Rule.TheVariants.{At, Input, Alignment, Latency, Lines, Total, Path, Longest, Arcs, Need, Bound, Least, Waves, Homes, Channels, Peak}
 use Rattle.plan_model.proofs.CertifiedLaws.{path_sum, sum_lines}
 use Rattle.plan_model.proofs.DualityLaws.{output_is_node}
+use Rattle.plan_model.proofs.GraphTwins.{printed_is_longest}
 use Rattle.plan_model.proofs.ValueLaws.{values_are_listed}
-
-none_before : (g : Graph) (v : ℕ) → connections_into g v ≡ [] → (k : ℕ) → reach_within g k v ≡ 0
-unfolding reach_within
-none_before g v none zero = refl
-none_before g v none (suc k) = ap (λ cs. greatest (map (λ c. reach_within g k c.src.0 + latency_at g c.src.0) cs)) none
-
--- the printed path is a path, and its sum is the reach
-pub printed_is_longest : (g : Graph) (rank : ℕ → ℕ) → IsRanked rank g → (v : ℕ) (us : List ℕ) → IsNode g v → IsPrinted g v us → IsPathTo g v us × (latencies g us ≡ reach g v)
-printed_is_longest g rank ranked v [] node none = (node, sym (none_before g v none (length g.nodes)))
-printed_is_longest g rank ranked v (u ∷ us) node printed =
-    let j = printed.0 in
-    let ends = All-contains (λ c. IsNode g c.src.0 × IsNode g c.dst.0) g.connections j.0 ranked.nodes j.1 in
-    let rest = printed_is_longest g rank ranked u us (subst (IsNode g) j.2 ends.0) printed.3 in
-    let sum = sum_by-cons (λ w. latency_at g w) u us in
-    let step = printed.1 in
-    let tail = rest.1 in
-    ((node, j, rest.0), omega arith)
 
 -- the homes of the lives of some ports are for these ports
 homes_are : (f : Port → Life) → ((x : Port) → ((f x).uid ≡ x.uid) × ((f x).channel ≡ x.channel)) → (ports : List Port) (homes : List Home)
@@ -83,9 +67,7 @@ parts_hold g parts lines arcs need bound sound nodes al at_end late ls summed pr
     rules Channels = assignment
     rules Peak = peak
 
-pub certified_of : (g : Graph) (plan : Plan) → IsSound g → IsAligned g plan.at plan.lines plan.total plan.arcs plan.bound → plan.latency ≡ latency_of_graph g → IsPrintedPath g plan.path
-    → IsSchedule g plan.waves → IsAssignment (lives_of g plan.waves (values g)) plan.homes plan.channels
-    → IsPeak (lives_of g plan.waves (values g)) (length plan.waves) plan.channels plan.peak → IsCertified g plan
+pub certified_of : PartsAreCertified
 certified_of g plan sound a late printed schedule assignment peak =
     let ports = homes_are (λ x. life_of g plan.waves x.uid x.channel) (λ x. (refl, refl)) (values g) plan.homes assignment.values in
     parts_hold g (parts g plan) _ _ _ _ sound a.nodes a.best.alignment a.best.latency late a.lines

@@ -38,7 +38,7 @@ wave_with (w ∷ ws) v has =
     ]
 
 -- the waves before place k have the nodes of each of them, the waves from it on those of it
-in_earlier : (ws : List Wave) (j k : ℕ) (w : Wave) (v : ℕ) → slice_get ws j ≡ Some w → j < k → Contains (names w) v → Contains (flat_map names (take k ws)) v
+pub in_earlier : (ws : List Wave) (j k : ℕ) (w : Wave) (v : ℕ) → slice_get ws j ≡ Some w → j < k → Contains (names w) v → Contains (flat_map names (take k ws)) v
 in_earlier [] j k w v e l has = absurd (cc)
 in_earlier (x ∷ ws) j zero w v e l has = absurd (omega arith)
 in_earlier (x ∷ ws) zero (suc k) w v e l has = let same : w ≡ x = cc in Contains-append_left (names x) (flat_map names (take k ws)) v (subst (λ y. Contains (names y) v) same has)
@@ -49,7 +49,7 @@ in_later [] k w v e has = absurd (cc)
 in_later (x ∷ ws) zero w v e has = let same : w ≡ x = cc in Contains-append_left (names x) (flat_map names ws) v (subst (λ y. Contains (names y) v) same has)
 in_later (x ∷ ws) (suc k) w v e has = in_later ws k w v e has
 
-in_any : (ws : List Wave) (k : ℕ) (w : Wave) (v : ℕ) → slice_get ws k ≡ Some w → Contains (names w) v → Contains (flat_map names ws) v
+pub in_any : (ws : List Wave) (k : ℕ) (w : Wave) (v : ℕ) → slice_get ws k ≡ Some w → Contains (names w) v → Contains (flat_map names ws) v
 in_any [] k w v e has = absurd (cc)
 in_any (x ∷ ws) zero w v e has = let same : w ≡ x = cc in Contains-append_left (names x) (flat_map names ws) v (subst (λ y. Contains (names y) v) same has)
 in_any (x ∷ ws) (suc k) w v e has = Contains-append_right (names x) (flat_map names ws) v (in_any ws k w v e has)
@@ -65,7 +65,7 @@ from_wave v (u ∷ us) e = go (u.0 == v) refl e (from_wave v us)
     go false t e rest = at_tail u.0 v (map (λ w. w.0) us) (rest e)
 
 -- a wave that has the node is not before the first that has it, and the first has it
-not_before : (ws : List Wave) (k : ℕ) (w : Wave) (v : ℕ) → slice_get ws k ≡ Some w → Contains (names w) v → wave_of ws v ≤ k
+pub not_before : (ws : List Wave) (k : ℕ) (w : Wave) (v : ℕ) → slice_get ws k ≡ Some w → Contains (names w) v → wave_of ws v ≤ k
 not_before [] k w v e has = absurd (cc)
 not_before (x ∷ ws) zero w v e has =
     let same : w ≡ x = cc in
@@ -81,7 +81,7 @@ not_before (x ∷ ws) (suc k) w v e has = later (list_any (λ u. u.0 == v) x.nod
     later true l = omega arith
     later false l = omega arith
 
-first_with : (ws : List Wave) (v : ℕ) → wave_of ws v < length ws → (w : Wave) × (slice_get ws (wave_of ws v) ≡ Some w) × Contains (names w) v
+pub first_with : (ws : List Wave) (v : ℕ) → wave_of ws v < length ws → (w : Wave) × (slice_get ws (wave_of ws v) ≡ Some w) × Contains (names w) v
 first_with [] v l = absurd (omega arith)
 first_with (x ∷ ws) v l = go (list_any (λ u. u.0 == v) x.nodes) refl l (first_with ws v)
   where

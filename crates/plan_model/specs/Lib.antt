@@ -9,5 +9,7 @@ pub mod Rules
 pub mod Certified
 pub mod Places
 pub mod Duality
+pub mod Homes
+pub mod Sizes
 pub mod Optimal
 pub mod Results
