@@ -45,7 +45,7 @@ over_insert : IsPathTo fan_out 2 (3 ∷ 1 ∷ [])
 unfolding fan_out
 over_insert = (refl, (joined 3 0 2 0, (1, omega arith, refl), refl, refl), (refl, (joined 1 0 3 0, (0, omega arith, refl), refl, refl), refl))
 
-over_gain : IsPathTo fan_out 2 (4 ∷ 1 ∷ [])
+pub over_gain : IsPathTo fan_out 2 (4 ∷ 1 ∷ [])
 unfolding fan_out
 over_gain = (refl, (joined 4 0 2 0, (3, omega arith, refl), refl, refl), (refl, (joined 1 0 4 0, (2, omega arith, refl), refl, refl), refl))
 

@@ -21,6 +21,7 @@ pub mod ExampleStraight
 pub mod ExamplePlan
 pub mod ExampleRefused
 pub mod ExamplePlaces
+pub mod ExampleNumbers
 pub mod PlaceLaws
 pub mod LifeLaws
 pub mod UniqueLaws
@@ -36,3 +37,4 @@ pub mod ScheduleLaws
 pub mod OneLaws
 pub mod HomeLaws
 pub mod SizeLaws
+pub mod ExampleIdle
