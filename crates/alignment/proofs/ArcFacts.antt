@@ -19,7 +19,7 @@ use Rattle.graph_model.proofs.HistoryLaws.{all_of}
 use Rattle.graph_model.proofs.PathLaws.{at_tail, first_or_later, same_name}
 use Rattle.graph_model.proofs.RangeLaws.{in_range}
 use Rattle.graph_model.proofs.RankLaws.{sound_is_ranked}
-use Rattle.topology.proofs.NameFacts.{same_uid}
+use Rattle.graph_model.proofs.NameFacts.{same_uid}
 use Rattle.plan_model.specs.Flows.{Difference, is_between, along, from_root, network, arc_between}
 use Rattle.plan_model.proofs.DualityLaws.{all_append, all_map, all_weaker, named, live_names, output_is_node}
 

@@ -20,7 +20,7 @@ use Rattle.graph_model.proofs.WalkLaws.{closed_walk_refutes}
 use Rattle.std.proofs.lemmas.Bool.{cases_lt, cases_eq}
 use Rattle.headroom.proofs.LoudFacts.{too_loud_refutes}
 use Rattle.headroom.specs.Answers.{AllBounded}
-use Rattle.topology.proofs.NameFacts.{any_node}
+use Rattle.graph_model.proofs.NameFacts.{any_node}
 use Rattle.connections.specs.Faults.{UidsDiffer, AreInRange, HasEnds, HasGoodNodes, HasUidAt, IsUidTwice, IsOutOfRange, IsFirstBad, LacksNode, JoinsItself, IsPastChannels, IsOffChannel, StandsAlready, HasFewDelays, HasFewCells, IsFirstFault}
 use Rattle.connections.specs.declared.fault.GraphFault.{GraphFault}
 use Rattle.connections.specs.declared.fault.GraphFault.TheVariants.{UidTwice, KindField, Ends, NoSuchNode, SelfConnection, ChannelRange, Twice, Cycle, DelayBound, StateBound, Headroom}

@@ -15,7 +15,7 @@ use Rattle.graph_model.specs.declared.graph.Connection.{Connection}
 use Rattle.graph_model.specs.declared.graph.Graph.{Graph}
 use Rattle.headroom.proofs.LoudFacts.{too_loud_is_unique}
 use Rattle.headroom.specs.declared.loud.TooLoud.{TooLoud}
-use Rattle.topology.proofs.NameFacts.{any_node}
+use Rattle.graph_model.proofs.NameFacts.{any_node}
 use Rattle.connections.specs.Faults.{UidsDiffer, HasUidAt, IsUidTwice, IsOutOfRange, IsFirstBad, LacksNode, HasItsNodes, JoinsItself, IsPastChannels, IsOffChannel, StandsAlready, IsFirstFault}
 use Rattle.connections.specs.Laws.{without_walk, FirstFaultIsUnique}
 use Rattle.connections.specs.declared.fault.GraphFault.{GraphFault}

@@ -7,7 +7,7 @@ use Rattle.std.proofs.lemmas.List.{get_or_default}
 use Rattle.std.proofs.lemmas.Option.{slice_get-get_or}
 use Rattle.graph_model.specs.Checks.{IsConnection, AreConnections}
 use Rattle.graph_model.specs.Sound.{Fits, IsShaped}
-use Rattle.topology.specs.Named.{IsNamed}
+use Rattle.graph_model.specs.Named.{IsNamed}
 use Rattle.graph_model.specs.declared.graph.Connection.{Connection}
 use Rattle.graph_model.specs.declared.graph.Graph.{Graph}
 

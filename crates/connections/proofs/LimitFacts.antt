@@ -7,7 +7,7 @@ use Rattle.graph_model.specs.Paths.{reach, latency_of_graph}
 use Rattle.graph_model.specs.Sound.{IsShaped}
 use Rattle.graph_model.specs.declared.graph.Node.{Node}
 use Rattle.graph_model.specs.declared.graph.Graph.{Graph}
-use Rattle.topology.proofs.NameFacts.{any_node, name_is, index_of}
+use Rattle.graph_model.proofs.NameFacts.{any_node, name_is, index_of}
 use Rattle.topology.proofs.OutputFacts.{output_named}
 use Rattle.connections.proofs.NodeFacts.{kept_at}
 

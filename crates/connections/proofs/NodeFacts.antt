@@ -16,8 +16,8 @@ use Rattle.graph_model.specs.declared.graph.Uid.{Uid}
 use Rattle.graph_model.specs.declared.graph.Node.{Node}
 use Rattle.graph_model.specs.declared.graph.Graph.{Graph}
 use Rattle.graph_model.proofs.PathLaws.{same_name}
-use Rattle.topology.specs.Named.{uid_at}
-use Rattle.topology.proofs.NameFacts.{any_node, name_is, same_uid}
+use Rattle.graph_model.specs.Named.{uid_at}
+use Rattle.graph_model.proofs.NameFacts.{any_node, name_is, same_uid}
 use Rattle.connections.specs.Faults.{UidsDiffer, HasUidAt, IsUidTwice, IsOutOfRange, AreInRange}
 
 at_node : {X : Type 0} (f : Graph → ℕ → X) (g : Graph) (xs : List X) (k : ℕ) (d : X) → k < length g.nodes → xs ≡ map (λ (n : Node). f g n.uid.0) g.nodes

@@ -2,7 +2,7 @@ ghost use Rattle.std.specs.Prelude.{◌≡◌, ◌<◌, length};
 ghost use Rattle.graph_model.specs.Bounds.{bounds};
 ghost use Rattle.graph_model.specs.Paths.{reach, is_live, IsPrintedPath};
 ghost use Rattle.graph_model.specs.Sound.{IsSound};
-ghost use Rattle.topology.specs.Named.{uid_at};
+ghost use Rattle.graph_model.specs.Named.{uid_at};
 ghost use Rattle.topology.specs.Answers.{IsOrderOfNodes};
 
 use graph_model::{Bound, Graph, List, Uid};

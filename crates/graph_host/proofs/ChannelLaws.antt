@@ -11,9 +11,9 @@ use Rattle.graph_model.specs.declared.kind.Kind.{Kind}
 use Rattle.graph_model.specs.declared.kind.Kind.TheVariants.{Input, Output}
 use Rattle.graph_model.specs.declared.graph.Node.{Node}
 use Rattle.graph_model.specs.declared.graph.Graph.{Graph}
-use Rattle.topology.proofs.NameFacts.{any_node}
+use Rattle.graph_model.proofs.NameFacts.{any_node}
 use Rattle.topology.proofs.OutputFacts.{output_found, output_named}
-use Rattle.renderer.proofs.NodeFacts.{has_place, input_exists, input_found, ins_is, position_found, range_at}
+use Rattle.graph_model.proofs.NodeFacts.{has_place, input_exists, input_found, ins_is, position_found, range_at}
 use Rattle.std.proofs.lemmas.List.Quantifiers.{position-Some}
 use Rattle.graph_host.specs.Outputs.{in_channels, out_channels}
 

@@ -8,7 +8,7 @@ use Rattle.graph_model.specs.Answers.{answer, outgoing, sum_into}
 use Rattle.graph_model.specs.declared.graph.Graph.{Graph}
 use Rattle.graph_model.proofs.HistoryLaws.{length-history_of}
 use Rattle.graph_model.proofs.BlockLaws.{length-frames_of, frames_of-append, interleaved_are_frames}
-use Rattle.renderer.proofs.Interleaving.{wide-history_of, length-interleaved}
+use Rattle.graph_model.proofs.Interleaving.{wide-history_of, length-interleaved}
 use Rattle.std.proofs.lemmas.List.{append-nil, get_or-replicate, length-drop, length-replicate, replicate-append-replicate}
 use Rattle.wav_pcm.specs.Heads.{head_of, wave_file_of}
 use Rattle.wav_pcm.specs.declared.head.Head.{Head}

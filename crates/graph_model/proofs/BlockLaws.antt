@@ -43,7 +43,7 @@ whole m n l some e = let plain : l ≡ n * m + 0 = omega (arith, e) in ap (λ z.
 pub length-frames_of : (m n : ℕ) (samples : List ℤ) → 0 < m → length samples ≡ n * m → length (frames_of m samples) ≡ n
 length-frames_of m n samples some e = length-before (frame_in m samples) (length samples / m) ∙ whole m n (length samples) some e
 
-row_within : (k n m : ℕ) → k < n → k * m + m ≤ n * m
+pub row_within : (k n m : ℕ) → k < n → k * m + m ≤ n * m
 row_within k n m lt = let e : k * m + m ≡ suc k * m = omega (arith, suc-mul k m) in subst (λ z. z ≤ n * m) (sym e) (mul-le-mul_right m lt)
 
 -- frame t of a block has its m samples

@@ -20,3 +20,7 @@ pub mod Positions
 pub mod Times
 pub mod Laws
 pub mod Kept
+pub mod Named
+pub mod Kernels
+pub mod Blocks
+pub mod Streams

@@ -26,16 +26,16 @@ use Rattle.graph_model.specs.declared.graph.Bound.{Bound}
 use Rattle.graph_model.specs.declared.graph.Node.{Node}
 use Rattle.graph_model.specs.declared.graph.Connection.{Connection}
 use Rattle.graph_model.specs.declared.graph.Graph.{Graph}
-use Rattle.topology.specs.Named.{IsNamed, uid_at}
+use Rattle.graph_model.specs.Named.{IsNamed, uid_at}
 use Rattle.topology.specs.Answers.{IsOrderOfNodes}
-use Rattle.topology.proofs.NameFacts.{same_index, is_node, name_is, any_node}
+use Rattle.graph_model.proofs.NameFacts.{same_index, is_node, name_is, any_node}
 use Rattle.topology.proofs.LinkFacts.{any_connection}
 use Rattle.topology.proofs.OrderFacts.{stands_index}
 use Rattle.headroom.specs.declared.loud.TooLoud.{TooLoud}
 use Rattle.headroom.specs.Answers.{AreBounds, AllBounded}
 use Rattle.headroom.specs.Found.{kept_bound, no_bound, IsFound, AreSourcesFound}
 use Rattle.headroom.specs.Loud.{kept, IsFirstOf, IsTooLoud}
-use Rattle.headroom.proofs.BoundFacts.{length-ins, length-outs}
+use Rattle.graph_model.proofs.BoundFacts.{length-ins, length-outs}
 use Rattle.headroom.proofs.LoudFacts.{kept_first_of}
 
 -- ---- names and channels

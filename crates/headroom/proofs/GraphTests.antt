@@ -19,7 +19,7 @@ use Rattle.graph_model.specs.declared.graph.Node.{Node}
 use Rattle.graph_model.specs.declared.graph.Uid.{Uid}
 use Rattle.graph_model.specs.declared.graph.Connection.{Connection}
 use Rattle.graph_model.specs.declared.graph.Graph.{Graph}
-use Rattle.topology.specs.Named.{IsNamed}
+use Rattle.graph_model.specs.Named.{IsNamed}
 use Rattle.topology.proofs.OrderFacts.{order_is_acyclic}
 use Rattle.headroom.specs.declared.loud.TooLoud.{TooLoud}
 use Rattle.headroom.specs.Answers.{AllBounded}

@@ -1,5 +1,4 @@
 pub mod OutputFacts
-pub mod BoundFacts
 pub mod LoudFacts
 pub mod FoundFacts
 pub mod GraphTests

@@ -45,17 +45,6 @@ kept_same [] le = refl
 kept_same (b ∷ bs) le = let e : kept b ≡ b = (let l : b ≤ 2 ^ 64 - 1 = le 0 in omega arith) in λ i. e i ∷ kept_same bs (λ j. le (suc j)) i
 
 -- a kind gives a bound for each output channel
-pub length-out_bounds : (kind : Kind) (bs : List ℕ) → length bs ≡ ins_of kind → length (out_bounds kind bs) ≡ outs_of kind
-length-out_bounds (Input channels) bs e = length-replicate channels (2 ^ 31)
-length-out_bounds (Output channels) bs e = refl
-length-out_bounds (Gain channels gain) bs e = length-map bs (λ b. rounded_nat (unsigned_abs gain * b) 16) ∙ e
-length-out_bounds (Mixer ins outs gains) bs e = length-map-range_with_len (λ o. rounded_nat (weighed (gains_to ins gains o) bs) 16) 0 outs
-length-out_bounds (Fir channels taps shift latency) bs e = length-map bs (λ b. rounded_nat (weight taps * b) shift) ∙ e
-length-out_bounds (Biquad channels b0 b1 b2 a1 a2 shift bits) bs e = length-map bs (λ b. 2 ^ bits - 1) ∙ e
-length-out_bounds (Limiter channels threshold lookahead) bs e = length-map bs (λ b. min b threshold) ∙ e
-length-out_bounds (Delay channels samples) bs e = e
-length-out_bounds (Insert channels samples) bs e = e
-
 -- ---- the arms of a kind
 pub ok_same : {A E : Type 0} (r : Result A E) (x y : A) → IfOk r (λ z. z ≡ x) → x ≡ y → IfOk r (λ z. z ≡ y)
 ok_same (Ok z) x y h e = h ∙ e

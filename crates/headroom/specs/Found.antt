@@ -4,7 +4,7 @@ use Rattle.std.specs.List.{All}
 use Rattle.graph_model.specs.Bounds.{bounds, IsBounded}
 use Rattle.graph_model.specs.declared.graph.Bound.{Bound}
 use Rattle.graph_model.specs.declared.graph.Graph.{Graph}
-use Rattle.topology.specs.Named.{uid_at}
+use Rattle.graph_model.specs.Named.{uid_at}
 use Rattle.headroom.specs.Loud.{kept}
 
 -- the bounds of a node whose inputs fit in 64 bits, as they are kept

@@ -5,7 +5,7 @@ ghost use Rattle.std.specs.List.{Contains};
 ghost use Rattle.graph_model.specs.Bounds.{bounds};
 ghost use Rattle.graph_model.specs.Graphs.{IsNode, node_named};
 ghost use Rattle.graph_model.specs.Sound.{Fits, IsShaped};
-ghost use Rattle.topology.specs.Named.{uid_at};
+ghost use Rattle.graph_model.specs.Named.{uid_at};
 ghost use Rattle.topology.specs.Answers.{IsOrderOfNodes};
 ghost use Rattle.headroom.specs.Found.{AreSourcesFound, IsFound, kept_bound, no_bound};
 ghost use Rattle.headroom.specs.Loud.{IsTooLoud};

@@ -4,11 +4,11 @@ use Rattle.std.proofs.lemmas.Bool.{cases_lt, le-leb, leb-true}
 use Rattle.std.proofs.lemmas.Int.{ints}
 use Rattle.std.proofs.lemmas.List.{get_or-set_same, get_or-set_other}
 use Rattle.std.proofs.lemmas.Nat.{same_from_place}
-use Rattle.renderer.specs.Samples.{AreUpTo}
+use Rattle.graph_model.specs.Bounds.{AreUpTo}
 use Rattle.renderer.specs.Routes.{sample_in, sample_before, IsAdded}
 use Rattle.renderer.specs.declared.routes.Channel.{Channel}
 use Rattle.renderer.specs.declared.routes.Route.{Route}
-use Rattle.renderer.proofs.Interleaving.{in_row}
+use Rattle.graph_model.proofs.Interleaving.{in_row}
 
 -- ---- what comes before a time
 pub before_none : (xs : List ℤ) (c : Channel) (late t : ℕ) → t < late → sample_before xs c late t ≡ pos 0

@@ -17,13 +17,13 @@ use Rattle.graph_model.specs.declared.graph.Node.{Node}
 use Rattle.graph_model.specs.declared.graph.Bound.{Bound}
 use Rattle.fixed_kernels.specs.Kernels.{IsBoundOf}
 use Rattle.processors.specs.Types.{IsBetweenEnds}
-use Rattle.topology.specs.Named.{uid_at}
-use Rattle.topology.proofs.NameFacts.{any_node}
+use Rattle.graph_model.specs.Named.{uid_at}
+use Rattle.graph_model.proofs.NameFacts.{any_node}
 use Rattle.renderer.specs.Evaluations.{IsEvaluation, input_of, positions_of, incoming_at, outgoing_at}
 use Rattle.renderer.specs.declared.evaluation.Evaluation.{Evaluation}
-use Rattle.renderer.proofs.Interleaving.{AreWide, wide-history_of, length-interleaved}
-use Rattle.renderer.proofs.NodeFacts.{ins_is, range_at}
-use Rattle.renderer.proofs.StreamFacts.{given_input, given_processor, interleaved-output}
+use Rattle.graph_model.proofs.Interleaving.{AreWide, wide-history_of, length-interleaved}
+use Rattle.graph_model.proofs.NodeFacts.{ins_is, range_at}
+use Rattle.graph_model.proofs.StreamFacts.{given_input, given_processor, interleaved-output}
 use Rattle.renderer.proofs.OutgoingFacts.{input_interleaved, incoming_within, bound_is, outgoing_given}
 
 -- something comes into every kind but an input

@@ -1,9 +1,6 @@
-pub mod Interleaving
-pub mod NodeFacts
 pub mod PositionFacts
 pub mod Adding
 pub mod RouteFacts
-pub mod StreamFacts
 pub mod OutgoingFacts
 pub mod SumFacts
 pub mod KindFacts

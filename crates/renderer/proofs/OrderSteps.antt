@@ -7,16 +7,16 @@ use Rattle.std.proofs.lemmas.List.Elements.{All-contains, Contains-get_or}
 use Rattle.graph_model.specs.Orders.{StandsBefore}
 use Rattle.graph_model.specs.Paths.{is_live, live_connections}
 use Rattle.graph_model.specs.declared.graph.Connection.{Connection}
-use Rattle.topology.specs.Named.{uid_at}
+use Rattle.graph_model.specs.Named.{uid_at}
 use Rattle.topology.specs.Answers.{IsOrderOfNodes}
 use Rattle.topology.proofs.LinkFacts.{any_connection}
-use Rattle.topology.proofs.NameFacts.{is_node}
+use Rattle.graph_model.proofs.NameFacts.{is_node}
 use Rattle.topology.proofs.OrderFacts.{stands_index}
 use Rattle.renderer.specs.Routes.{IsRoute}
 use Rattle.renderer.specs.Evaluations.{IsEvaluation, HasStream, HasSources, HasAll, positions_of, outgoing_at}
 use Rattle.renderer.specs.declared.evaluation.Evaluation.{Evaluation}
 use Rattle.renderer.specs.declared.routes.Route.{Route}
-use Rattle.renderer.proofs.NodeFacts.{named}
+use Rattle.graph_model.proofs.NodeFacts.{named}
 use Rattle.renderer.proofs.RouteFacts.{kept, source_live}
 
 -- the live ones of the first k nodes of the order have their streams

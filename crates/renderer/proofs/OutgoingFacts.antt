@@ -19,15 +19,15 @@ use Rattle.graph_model.specs.declared.kind.Kind.{Kind}
 use Rattle.graph_model.specs.declared.kind.Kind.TheVariants.{Input}
 use Rattle.graph_model.specs.declared.graph.Node.{Node}
 use Rattle.fixed_kernels.specs.Kernels.{IsBoundOf}
-use Rattle.headroom.proofs.BoundFacts.{length-ins, outs_are}
-use Rattle.topology.specs.Named.{uid_at}
-use Rattle.topology.proofs.NameFacts.{any_node, name_is}
-use Rattle.renderer.specs.Samples.{AreUpTo}
+use Rattle.graph_model.proofs.BoundFacts.{length-ins, outs_are}
+use Rattle.graph_model.specs.Named.{uid_at}
+use Rattle.graph_model.proofs.NameFacts.{any_node, name_is}
+use Rattle.graph_model.specs.Bounds.{AreUpTo}
 use Rattle.renderer.specs.Evaluations.{IsEvaluation, input_of, positions_of}
 use Rattle.renderer.specs.declared.evaluation.Evaluation.{Evaluation}
-use Rattle.renderer.proofs.Interleaving.{AreWide, wide-frames_of, get_or-interleaved}
-use Rattle.renderer.proofs.NodeFacts.{input_some, input_is, node_is, index_of, ins_is, outs_is}
-use Rattle.renderer.proofs.StreamFacts.{wide-given, long-given}
+use Rattle.graph_model.proofs.Interleaving.{AreWide, wide-frames_of, get_or-interleaved}
+use Rattle.graph_model.proofs.NodeFacts.{input_some, input_is, node_is, index_of, ins_is, outs_is}
+use Rattle.graph_model.proofs.StreamFacts.{wide-given, long-given}
 
 -- the samples of a history that is nowhere larger than b
 pub interleaved_small : (b : ℕ) (h : History) → ((c k : ℕ) → unsigned_abs (sample h c k) ≤ b) → AreUpTo b (interleaved h)

@@ -13,10 +13,10 @@ use Rattle.graph_model.specs.declared.graph.Connection.{Connection}
 use Rattle.graph_model.specs.declared.graph.Graph.{Graph}
 use Rattle.plan_model.specs.Alignments.{IsAlignment}
 use Rattle.plan_model.proofs.DualityLaws.{output_is_node}
-use Rattle.topology.specs.Named.{uid_at}
-use Rattle.topology.proofs.NameFacts.{any_node, index_of}
+use Rattle.graph_model.specs.Named.{uid_at}
+use Rattle.graph_model.proofs.NameFacts.{any_node, index_of}
 use Rattle.renderer.specs.Positions.{position_at, AreAligned}
-use Rattle.renderer.proofs.NodeFacts.{first_place, at_input, input_reach}
+use Rattle.graph_model.proofs.NodeFacts.{first_place, at_input, input_reach}
 
 -- the first k nodes have the positions p
 pub record AreListed (g : Graph) (p : ℕ → ℕ) (k : ℕ) (ps : List ℕ) : Type 0 where

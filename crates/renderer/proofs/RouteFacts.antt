@@ -16,12 +16,12 @@ use Rattle.graph_model.specs.declared.graph.Connection.{Connection}
 use Rattle.graph_model.specs.declared.graph.Node.{Node}
 use Rattle.graph_model.specs.declared.graph.Graph.{Graph}
 use Rattle.plan_model.specs.Alignments.{IsAlignment, IsAfter}
-use Rattle.topology.specs.Named.{uid_at}
-use Rattle.topology.proofs.NameFacts.{any_node}
+use Rattle.graph_model.specs.Named.{uid_at}
+use Rattle.graph_model.proofs.NameFacts.{any_node}
 use Rattle.renderer.specs.Positions.{position_at}
 use Rattle.renderer.specs.Routes.{IsRoute, AreRoutes, AreRoutesOf}
 use Rattle.renderer.specs.declared.routes.Route.{Route}
-use Rattle.renderer.proofs.NodeFacts.{has_place, place_is, outs_is, ins_is, latency_is}
+use Rattle.graph_model.proofs.NodeFacts.{has_place, place_is, outs_is, ins_is, latency_is}
 use Rattle.renderer.proofs.PositionFacts.{position_is}
 
 -- ---- live connections

@@ -16,18 +16,18 @@ use Rattle.graph_model.proofs.AnswerLaws.{into_v}
 use Rattle.graph_model.proofs.HistoryLaws.{sample-past}
 use Rattle.graph_model.proofs.PathLaws.{and_both}
 use Rattle.graph_model.specs.declared.graph.Connection.{Connection}
-use Rattle.topology.specs.Named.{uid_at}
-use Rattle.topology.proofs.NameFacts.{same_index}
+use Rattle.graph_model.specs.Named.{uid_at}
+use Rattle.graph_model.proofs.NameFacts.{same_index}
 use Rattle.topology.proofs.LinkFacts.{any_connection}
-use Rattle.renderer.specs.Samples.{AreUpTo}
+use Rattle.graph_model.specs.Bounds.{AreUpTo}
 use Rattle.renderer.specs.Routes.{IsRoute, IsAdded, sample_in, sample_before}
 use Rattle.renderer.specs.Evaluations.{IsEvaluation, HasStream, HasSources, input_of, positions_of, incoming_at}
 use Rattle.renderer.specs.declared.routes.Channel.{Channel}
 use Rattle.renderer.specs.declared.routes.Route.{Route}
 use Rattle.renderer.specs.declared.evaluation.Evaluation.{Evaluation}
 use Rattle.renderer.proofs.Adding.{before_none, before_some}
-use Rattle.renderer.proofs.Interleaving.{in_row, in_turn, in_frame, length-interleaved, get_or-interleaved, interleaved-history_of}
-use Rattle.renderer.proofs.NodeFacts.{named, channels_fit}
+use Rattle.graph_model.proofs.Interleaving.{in_row, in_turn, in_frame, length-interleaved, get_or-interleaved, interleaved-history_of}
+use Rattle.graph_model.proofs.NodeFacts.{named, channels_fit}
 use Rattle.renderer.proofs.RouteFacts.{kept}
 use Rattle.renderer.proofs.OutgoingFacts.{interleaved_small, long_input, outgoing_small, wide_outgoing, long_outgoing}
 

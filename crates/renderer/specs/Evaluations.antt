@@ -6,10 +6,10 @@ use Rattle.graph_model.specs.Graphs.{input_name, outs_at}
 use Rattle.graph_model.specs.Histories.{History, frames_of, interleaved}
 use Rattle.graph_model.specs.Paths.{is_live}
 use Rattle.graph_model.specs.Sound.{IsSound}
-use Rattle.topology.specs.Named.{uid_at}
+use Rattle.graph_model.specs.Named.{uid_at}
 use Rattle.renderer.specs.Positions.{position_at}
 use Rattle.renderer.specs.Routes.{AreRoutes}
-use Rattle.renderer.specs.Samples.{AreUpTo}
+use Rattle.graph_model.specs.Bounds.{AreUpTo}
 use Rattle.renderer.specs.declared.evaluation.Evaluation.{Evaluation}
 
 -- the history of the input
@@ -33,7 +33,6 @@ pub record IsEvaluation (e : Evaluation) : Type 0 where
   pub routes : AreRoutes e.graph.now (positions_of e) e.routes.items
   pub whole : length e.input.now ≡ e.frames * outs_at e.graph.now (input_name e.graph.now)
   pub small : AreUpTo (2 ^ 31) e.input.now
-  pub few : e.frames < 2 ^ 40
 
 -- the streams have what goes out of node i
 abbrev pub HasStream : Evaluation → List (List ℤ) → ℕ → Type 0

@@ -1,4 +1,3 @@
-pub mod Samples
 pub mod Positions
 pub mod Routes
 pub mod Evaluations

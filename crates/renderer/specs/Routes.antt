@@ -5,7 +5,7 @@ use Rattle.graph_model.specs.Paths.{live_connections}
 use Rattle.graph_model.specs.Answers.{delay}
 use Rattle.graph_model.specs.declared.graph.Connection.{Connection}
 use Rattle.graph_model.specs.declared.graph.Graph.{Graph}
-use Rattle.topology.specs.Named.{uid_at}
+use Rattle.graph_model.specs.Named.{uid_at}
 use Rattle.renderer.specs.declared.routes.Channel.{Channel}
 use Rattle.renderer.specs.declared.routes.Route.{Route}
 

@@ -1,12 +1,12 @@
 //! The streams of a graph's live nodes, in the order of the nodes.
 
-ghost use Rattle.std.specs.Prelude.{◌≡◌, ◌%◌, ◌^◌, ◌<◌, IfOk, length, true};
+ghost use Rattle.std.specs.Prelude.{◌≡◌, ◌*◌, ◌%◌, ◌^◌, ◌<◌, IfOk, length, pos, replicate, true};
 ghost use Rattle.graph_model.specs.Graphs.{input_name, outs_at};
 ghost use Rattle.graph_model.specs.Paths.{is_live};
 ghost use Rattle.plan_model.specs.Alignments.{IsAlignment};
-ghost use Rattle.topology.specs.Named.{uid_at};
+ghost use Rattle.graph_model.specs.Named.{uid_at};
 ghost use Rattle.renderer.specs.Positions.{position_at};
-ghost use Rattle.renderer.specs.Samples.{AreUpTo};
+ghost use Rattle.graph_model.specs.Bounds.{AreUpTo};
 
 use crate::lookup::input_channels;
 use crate::routes::{Route, routes};
@@ -27,6 +27,16 @@ pub(crate) struct Evaluation<'a> {
     frames: usize,
 }
 
+/// Zeros for so many frames. It fails only for want of memory, as for more samples than can be counted.
+fn silent(alloc: Global, frames: usize, channels: usize) -> Result<Vec<i64>, AllocError>
+    ensures { IfOk result (λ v. v.items ≡ replicate (frames * channels) (pos 0)) }
+{
+    match frames.checked_mul(channels) {
+        Some(count) => vec![in alloc; 0; count],
+        None => Err(AllocError),
+    }
+}
+
 impl<'a> Evaluation<'a> {
     ghost use Rattle.renderer.specs.Evaluations.{IsEvaluation, HasAll, HasSources, incoming_at, outgoing_at};
 
@@ -41,7 +51,6 @@ impl<'a> Evaluation<'a> {
         requires alignment { IsAlignment graph.now (position_at graph.now positions.now) }
         requires whole { length input.now % outs_at graph.now (input_name graph.now) ≡ 0 }
         requires small { AreUpTo (2 ^ 31) input.now }
-        requires few { length input.now < 2 ^ 40 }
         ensures state { IfOk result IsEvaluation }
         ensures graph { IfOk result (λ e. e.graph.now ≡ graph.now) }
         ensures positions { IfOk result (λ e. e.positions.now ≡ positions.now) }
@@ -123,7 +132,7 @@ impl<'a> Evaluation<'a> {
         ensures { IfOk result (λ v. v.items ≡ incoming_at self.now node) }
     {
         let channels = self.graph.graph().nodes.as_slice()[node].ins() as usize;
-        let mut sums = vec![in alloc; 0; self.frames * channels]?;
+        let mut sums = silent(alloc, self.frames, channels)?;
         for route in &self.routes {
             if route.dst == node {
                 let stream = streams[route.src].as_slice();

@@ -23,7 +23,7 @@ ghost use Rattle.graph_model.specs.Paths.{latency_of_graph};
 ghost use Rattle.plan_model.specs.Alignments.{IsAlignment, position_in};
 ghost use Rattle.plan_model.specs.Certified.{AreLiveNodes};
 ghost use Rattle.renderer.specs.Positions.{position_at};
-ghost use Rattle.renderer.specs.Samples.{AreUpTo};
+ghost use Rattle.graph_model.specs.Bounds.{AreUpTo};
 
 mod evaluation;
 pub mod laws;
@@ -50,7 +50,6 @@ use std::alloc::{AllocError, Global};
 pub fn answer(alloc: Global, graph: &Checked, input: &[i64]) -> Result<List<i64>, AllocError>
     requires whole { length input.now % outs_at graph.now (input_name graph.now) ≡ 0 }
     requires small { AreUpTo (2 ^ 31) input.now }
-    requires few { length input.now < 2 ^ 40 }
     ensures { IfOk result (λ v. v ≡ interleaved (answer graph.now (frames_of (outs_at graph.now (input_name graph.now)) input.now))) }
 {
     let positions = reaches(alloc, graph)?;
@@ -69,7 +68,6 @@ pub fn answer_at(
 ) -> Result<List<i64>, AllocError>
     requires whole { length input.now % outs_at graph.now (input_name graph.now) ≡ 0 }
     requires small { AreUpTo (2 ^ 31) input.now }
-    requires few { length input.now < 2 ^ 40 }
     requires nodes { AreLiveNodes graph.now (map (λ a. a.uid.0) at.now) }
     requires alignment { IsAlignment graph.now (position_in at.now) }
     requires near { position_in at.now (output_name graph.now) ≤ 2 ^ 26 }
@@ -88,7 +86,6 @@ fn rendered(
 ) -> Result<List<i64>, AllocError>
     requires whole { length input.now % outs_at graph.now (input_name graph.now) ≡ 0 }
     requires small { AreUpTo (2 ^ 31) input.now }
-    requires few { length input.now < 2 ^ 40 }
     requires count { length positions.now ≡ length graph.now.nodes }
     requires alignment { IsAlignment graph.now (position_at graph.now positions.now) }
     ensures { IfOk result (λ v. v ≡ interleaved (shifted (position_at graph.now positions.now (output_name graph.now) - latency_of_graph graph.now) (ins_at graph.now (output_name graph.now)) (answer graph.now (frames_of (outs_at graph.now (input_name graph.now)) input.now)))) }

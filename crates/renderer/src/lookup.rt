@@ -3,7 +3,7 @@ ghost use Rattle.std.specs.List.{find, position};
 ghost use Rattle.std.specs.Option.{option_copied};
 ghost use Rattle.graph_model.specs.Graphs.{is_input, is_output, input_name, outs_at, output_name};
 ghost use Rattle.graph_model.specs.Sound.{IsSound};
-ghost use Rattle.topology.specs.Named.{uid_at};
+ghost use Rattle.graph_model.specs.Named.{uid_at};
 
 use graph_model::{Graph, Kind, Node, Uid};
 

@@ -6,7 +6,7 @@ ghost use Rattle.graph_model.specs.Paths.{is_live, live_connections};
 ghost use Rattle.plan_model.specs.Alignments.{IsAlignment};
 ghost use Rattle.renderer.specs.Positions.{position_at};
 ghost use Rattle.renderer.specs.Routes.{IsRoute, AreRoutes, IsAdded};
-ghost use Rattle.renderer.specs.Samples.{AreUpTo};
+ghost use Rattle.graph_model.specs.Bounds.{AreUpTo};
 
 use crate::lookup::place_of;
 use connections::Checked;

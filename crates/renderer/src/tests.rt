@@ -4,7 +4,7 @@ ghost use Rattle.graph_model.specs.Sound.{Fits};
 ghost use Rattle.graph_model.specs.declared.kind.Kind.TheVariants.{Gain};
 ghost use Rattle.plan_model.specs.Alignments.{IsAlignment, position_in};
 ghost use Rattle.plan_model.specs.Certified.{AreLiveNodes};
-ghost use Rattle.renderer.specs.Samples.{AreUpTo};
+ghost use Rattle.graph_model.specs.Bounds.{AreUpTo};
 
 use crate::lookup::input_channels;
 use crate::{answer, answer_at};
@@ -35,7 +35,6 @@ fn rendered(
     samples: &[i16],
 ) -> Result<List<i64>, Fail>
     requires fits { Fits graph }
-    requires few { length samples.now < 2 ^ 40 }
 {
     let input = scaled_up(alloc, samples)?;
     let checked = check(alloc, graph)?;
@@ -147,7 +146,6 @@ fn rendered_at(
 ) -> Result<List<i64>, Fail>
     requires after { 5 ≤ late }
     requires near { late ≤ 2 ^ 26 }
-    requires few { length samples.now < 2 ^ 40 }
 {
     let (graph, at) = fan_out(alloc, late)?;
     let input = scaled_up(alloc, samples)?;

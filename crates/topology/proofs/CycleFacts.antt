@@ -6,11 +6,11 @@ use Rattle.std.proofs.lemmas.Bool.{cases_lt, cases_eq}
 use Rattle.graph_model.specs.Checks.{IsTrail, IsClosedWalk}
 use Rattle.graph_model.specs.declared.graph.Uid.{Uid}
 use Rattle.graph_model.specs.declared.graph.Graph.{Graph}
-use Rattle.topology.specs.Named.{uid_at}
+use Rattle.graph_model.specs.Named.{uid_at}
 use Rattle.topology.specs.Links.{source, target, AreLinks}
 use Rattle.topology.specs.Blocks.{block_of}
 use Rattle.topology.specs.declared.links.Link.{Link}
-use Rattle.topology.proofs.NameFacts.{same_uid}
+use Rattle.graph_model.proofs.NameFacts.{same_uid}
 use Rattle.topology.proofs.LinkFacts.{source_is, target_is, connection_is, connection_at}
 
 -- the links, named by their places, lead from u to v

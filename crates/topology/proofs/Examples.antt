@@ -9,9 +9,9 @@ use Rattle.graph_model.specs.Paths.{IsPathTo, IsPrinted, IsPrintedPath, reach_wi
 use Rattle.graph_model.specs.declared.graph.Uid.{Uid}
 use Rattle.graph_model.specs.declared.graph.Connection.{Connection}
 use Rattle.graph_model.proofs.Examples.{joined}
-use Rattle.topology.specs.Named.{uid_at}
+use Rattle.graph_model.specs.Named.{uid_at}
 use Rattle.topology.specs.Answers.{IsOrderOfNodes, AreLive, IsReachOf}
-use Rattle.topology.proofs.NameFacts.{index_of}
+use Rattle.graph_model.proofs.NameFacts.{index_of}
 use Rattle.topology.proofs.TestGraphs.{fan_out}
 
 -- what holds of the four nodes holds of all, and so of the joints

@@ -1,7 +1,5 @@
-pub mod NameFacts
 pub mod LinkFacts
 pub mod OrderFacts
-pub mod OrderOnce
 pub mod CycleFacts
 pub mod MarkFacts
 pub mod OutputFacts

@@ -7,9 +7,9 @@ use Rattle.graph_model.specs.Paths.{IsLive, is_live, IsAcyclic, depth}
 use Rattle.graph_model.specs.declared.graph.Node.{Node}
 use Rattle.graph_model.specs.declared.graph.Graph.{Graph}
 use Rattle.graph_model.proofs.PathLaws.{live_by_paths, live_by_test}
-use Rattle.topology.specs.Named.{IsNamed, HasOneOutput}
+use Rattle.graph_model.specs.Named.{IsNamed, HasOneOutput}
 use Rattle.topology.specs.Answers.{AreLive}
-use Rattle.topology.proofs.NameFacts.{any_node}
+use Rattle.graph_model.proofs.NameFacts.{any_node}
 use Rattle.topology.proofs.OutputFacts.{output_exists}
 use Rattle.topology.proofs.ReachFacts.{rises}
 

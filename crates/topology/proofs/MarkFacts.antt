@@ -10,13 +10,13 @@ use Rattle.graph_model.specs.Paths.{IsPathTo, IsLive}
 use Rattle.graph_model.specs.declared.graph.Node.{Node}
 use Rattle.graph_model.specs.declared.graph.Graph.{Graph}
 use Rattle.graph_model.proofs.PathLaws.{first_or_later, at_tail}
-use Rattle.topology.specs.Named.{IsNamed, uid_at}
+use Rattle.graph_model.specs.Named.{IsNamed, uid_at}
 use Rattle.topology.specs.Links.{source, target, no_link, AreLinks}
 use Rattle.topology.specs.Blocks.{is_taken}
 use Rattle.topology.specs.Marks.{AllLive, KeepsMarks, SpreadUpTo, IsSpread, SpreadsAlong}
 use Rattle.topology.specs.Answers.{AreLive}
 use Rattle.topology.specs.declared.links.Link.{Link}
-use Rattle.topology.proofs.NameFacts.{same_index, is_node, name_is, any_node}
+use Rattle.graph_model.proofs.NameFacts.{same_index, is_node, name_is, any_node}
 use Rattle.topology.proofs.LinkFacts.{joined, link_of}
 
 set_keeps : (marks : List Bool) (u v : ℕ) → is_taken marks v ≡ true → is_taken (set marks u true) v ≡ true

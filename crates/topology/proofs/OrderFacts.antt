@@ -10,13 +10,13 @@ use Rattle.graph_model.specs.Orders.{StandsBefore, HasSources, IsNext, IsOrder}
 use Rattle.graph_model.specs.declared.graph.Node.{Node}
 use Rattle.graph_model.specs.declared.graph.Graph.{Graph}
 use Rattle.graph_model.proofs.PathLaws.{first_or_later, same_name}
-use Rattle.topology.specs.Named.{IsNamed, uids_of, uid_at}
+use Rattle.graph_model.specs.Named.{IsNamed, uids_of, uid_at}
 use Rattle.topology.specs.Links.{source, target, AreLinks}
 use Rattle.topology.specs.Blocks.{block_of, is_taken, AreBlocks, Blocks, IsFree}
 use Rattle.topology.specs.Taken.{AreTaken}
 use Rattle.topology.specs.Answers.{IsOrderOfNodes}
 use Rattle.topology.specs.declared.links.Link.{Link}
-use Rattle.topology.proofs.NameFacts.{same_index, index_of, is_node}
+use Rattle.graph_model.proofs.NameFacts.{same_index, index_of, is_node}
 use Rattle.topology.proofs.LinkFacts.{count, connection_at, any_connection, source_is, target_is, link_of}
 
 -- ---- an order leaves no closed walk

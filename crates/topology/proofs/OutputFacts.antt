@@ -8,8 +8,8 @@ use Rattle.std.proofs.lemmas.Option.{slice_get-get_or}
 use Rattle.graph_model.specs.Graphs.{IsNode, is_output, output_name, name_or_zero}
 use Rattle.graph_model.specs.declared.graph.Node.{Node}
 use Rattle.graph_model.specs.declared.graph.Graph.{Graph}
-use Rattle.topology.specs.Named.{IsNamed, HasOneOutput, uid_at}
-use Rattle.topology.proofs.NameFacts.{any_node, name_is, is_node}
+use Rattle.graph_model.specs.Named.{IsNamed, HasOneOutput, uid_at}
+use Rattle.graph_model.proofs.NameFacts.{any_node, name_is, is_node}
 
 passes_below : {X : Type 0} (p : X → Bool) (xs : List X) → 0 < count_by p xs → position_or_len p xs < length xs
 passes_below p [] some = absurd (omega arith)

@@ -11,12 +11,12 @@ use Rattle.graph_model.specs.declared.graph.Node.{Node}
 use Rattle.graph_model.specs.declared.graph.Graph.{Graph}
 use Rattle.graph_model.proofs.RankLaws.{ranked, path_short, node_of}
 use Rattle.graph_model.proofs.ReachLaws.{reach_is_longest, reach_after}
-use Rattle.topology.specs.Named.{IsNamed, uid_at, latencies_of}
+use Rattle.graph_model.specs.Named.{IsNamed, uid_at, latencies_of}
 use Rattle.topology.specs.Links.{source, target, AreLinks}
 use Rattle.topology.specs.Reaches.{given, IsPulled, AreReaches}
 use Rattle.topology.specs.Answers.{IsOrderOfNodes}
 use Rattle.topology.specs.declared.links.Link.{Link}
-use Rattle.topology.proofs.NameFacts.{same_index, index_of, is_node, name_is, latency_is, any_node}
+use Rattle.graph_model.proofs.NameFacts.{same_index, index_of, is_node, name_is, latency_is, any_node}
 use Rattle.topology.proofs.LinkFacts.{joined, link_of}
 use Rattle.topology.proofs.OrderFacts.{order_is_acyclic, stands_index}
 

@@ -14,7 +14,7 @@ use Rattle.graph_model.specs.declared.graph.Graph.{Graph}
 use Rattle.graph_model.proofs.PathLaws.{same_name}
 use Rattle.graph_model.specs.declared.kind.Kind.TheVariants.{Input, Output, Gain, Delay, Insert}
 use Rattle.graph_model.proofs.Examples.{node, joined}
-use Rattle.topology.specs.Named.{IsNamed}
+use Rattle.graph_model.specs.Named.{IsNamed}
 
 -- no node has the name of a later one
 abbrev pub differ : List Node → Bool

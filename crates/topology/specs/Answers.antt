@@ -7,7 +7,7 @@ use Rattle.graph_model.specs.Paths.{IsLive, IsAcyclic, IsPrintedPath, reach}
 use Rattle.graph_model.specs.declared.graph.Graph.{Graph}
 use Rattle.graph_model.specs.declared.refused.Refused.{Refused}
 use Rattle.graph_model.specs.declared.refused.Refused.TheVariants.{Fault, Memory}
-use Rattle.topology.specs.Named.{uid_at}
+use Rattle.graph_model.specs.Named.{uid_at}
 use Rattle.topology.specs.declared.cycles.Cycle.{Cycle}
 use Rattle.topology.specs.declared.reaches.Reach.{Reach}
 

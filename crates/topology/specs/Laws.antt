@@ -4,7 +4,7 @@ use Rattle.graph_model.specs.Checks.{IsClosedWalk}
 use Rattle.graph_model.specs.Orders.{IsOrder}
 use Rattle.graph_model.specs.Paths.{IsAcyclic, is_live}
 use Rattle.graph_model.specs.declared.graph.Graph.{Graph}
-use Rattle.topology.specs.Named.{IsNamed, HasOneOutput}
+use Rattle.graph_model.specs.Named.{IsNamed, HasOneOutput}
 use Rattle.topology.specs.Answers.{AreLive}
 
 -- there is one order at most

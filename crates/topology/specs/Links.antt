@@ -1,7 +1,7 @@
 -- Connections by the indexes of their nodes.
 use Rattle.std.specs.Prelude.{ℕ, ◌≡◌, ◌<◌, List, length, get_or, map}
 use Rattle.graph_model.specs.declared.graph.Graph.{Graph}
-use Rattle.topology.specs.Named.{uid_at}
+use Rattle.graph_model.specs.Named.{uid_at}
 use Rattle.topology.specs.declared.links.Link.{Link}
 
 abbrev pub no_link : Link

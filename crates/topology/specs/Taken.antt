@@ -3,7 +3,7 @@ use Rattle.std.specs.Prelude.{ℕ, ◌≡◌, ◌<◌, List, length, map, get_or
 use Rattle.std.specs.List.{All}
 use Rattle.graph_model.specs.Orders.{StandsBefore, IsNext}
 use Rattle.graph_model.specs.declared.graph.Graph.{Graph}
-use Rattle.topology.specs.Named.{uid_at}
+use Rattle.graph_model.specs.Named.{uid_at}
 use Rattle.topology.specs.Blocks.{AreBlocks, is_taken}
 use Rattle.topology.specs.declared.links.Link.{Link}
 

@@ -1,6 +1,6 @@
 ghost use Rattle.std.specs.Prelude.{◌≡◌, ◌<◌, IfOk, length, slice_index};
 ghost use Rattle.std.specs.List.{Contains};
-ghost use Rattle.topology.specs.Named.{IsNamed, uids_of};
+ghost use Rattle.graph_model.specs.Named.{IsNamed, uids_of};
 ghost use Rattle.topology.specs.Links.{AreLinks};
 
 use graph_model::Graph;

@@ -1,7 +1,7 @@
 ghost use Rattle.std.specs.Prelude.{◌≡◌, ◌<◌, length, IfOk, MatchBool, count_by, not};
 ghost use Rattle.std.specs.List.{position};
 ghost use Rattle.graph_model.specs.Graphs.{is_output, output_name};
-ghost use Rattle.topology.specs.Named.{IsNamed, HasOneOutput, uid_at};
+ghost use Rattle.graph_model.specs.Named.{IsNamed, HasOneOutput, uid_at};
 ghost use Rattle.graph_model.specs.declared.graph.Graph.{Graph};
 ghost use Rattle.topology.specs.Links.{AreLinks, AreWithin};
 ghost use Rattle.topology.specs.Marks.{AllLive, IsSpread, KeepsMarks, SpreadsAlong};

@@ -1,7 +1,7 @@
 ghost use Rattle.std.specs.Prelude.{◌≡◌, ℕ, ◌<◌, length, true, false, IfOk, IfErr, MatchOption, MatchResult};
 ghost use Rattle.graph_model.specs.Checks.{IsClosedWalk};
 ghost use Rattle.graph_model.specs.Paths.{IsAcyclic};
-ghost use Rattle.topology.specs.Named.{IsNamed};
+ghost use Rattle.graph_model.specs.Named.{IsNamed};
 ghost use Rattle.topology.specs.Links.{AreLinks, AreWithin};
 ghost use Rattle.topology.specs.Blocks.{AreBlocks, IsFree, IsFirstFree, is_taken};
 ghost use Rattle.topology.specs.Taken.{AreTaken};

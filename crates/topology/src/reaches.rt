@@ -1,6 +1,6 @@
 ghost use Rattle.std.specs.Prelude.{◌≡◌, ℕ, ◌<◌, ◌^◌, length, slice_index, IfOk};
 ghost use Rattle.graph_model.specs.Paths.{IsAcyclic};
-ghost use Rattle.topology.specs.Named.{IsNamed, HasOneOutput, latencies_of};
+ghost use Rattle.graph_model.specs.Named.{IsNamed, HasOneOutput, latencies_of};
 ghost use Rattle.topology.specs.Links.{AreLinks, AreWithin};
 ghost use Rattle.topology.specs.Reaches.{IsPulled, IsFirstTight, AreReaches, IsPathBack};
 ghost use Rattle.topology.specs.Answers.{IsOrderOfNodes, IsReachOf};

@@ -1,5 +1,5 @@
 ghost use Rattle.std.specs.Prelude.{◌≡◌, ◌∷◌, [], ◌++◌, IfOk};
-ghost use Rattle.topology.specs.Named.{IsNamed, HasOneOutput};
+ghost use Rattle.graph_model.specs.Named.{IsNamed, HasOneOutput};
 ghost use Rattle.topology.specs.Answers.{IsOrderOfNodes};
 
 use crate::{Cycle, live, longest, order};

@@ -6,7 +6,7 @@ use Rattle.graph_model.specs.Histories.{frames_of, interleaved}
 use Rattle.graph_model.specs.Paths.{is_live}
 use Rattle.graph_model.specs.declared.graph.Graph.{Graph}
 use Rattle.plan_model.proofs.ShiftLaws.{positions_never_show}
-use Rattle.topology.specs.Named.{uid_at}
+use Rattle.graph_model.specs.Named.{uid_at}
 use Rattle.renderer.specs.Positions.{position_at}
 use Rattle.renderer.specs.Evaluations.{HasSources}
 use Rattle.renderer.proofs.AnswerFacts.{output_is_live}

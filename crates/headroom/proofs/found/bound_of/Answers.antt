@@ -3,7 +3,7 @@ use Rattle.graph_model.specs.Graphs.{or_zero}
 use Rattle.graph_model.specs.Kinds.{ins_of}
 use Rattle.graph_model.specs.Bounds.{out_bounds}
 use Rattle.headroom.specs.Loud.{kept}
-use Rattle.headroom.proofs.BoundFacts.{length-ins, outs_are}
+use Rattle.graph_model.proofs.BoundFacts.{length-ins, outs_are}
 use Rattle.headroom.proofs.FoundFacts.{range_of}
 use Rattle.headroom.proofs.found.bound_of.Goals as goal
 

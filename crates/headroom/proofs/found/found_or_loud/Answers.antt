@@ -2,7 +2,7 @@ use Rattle.std.proofs.Common.{ℕ, get_or, ap, ◌∙◌, sym, subst, length, ar
 use Rattle.graph_model.specs.Bounds.{bounds, IsBounded}
 use Rattle.graph_model.specs.declared.graph.Bound.{Bound}
 use Rattle.graph_model.specs.declared.graph.Uid.{Uid}
-use Rattle.topology.specs.Named.{uid_at}
+use Rattle.graph_model.specs.Named.{uid_at}
 use Rattle.headroom.specs.Found.{kept_bound, AreSourcesFound}
 use Rattle.headroom.specs.Loud.{IsFirstOf}
 use Rattle.headroom.proofs.LoudFacts.{kept_bounded}

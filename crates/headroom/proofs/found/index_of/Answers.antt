@@ -1,6 +1,6 @@
 use Rattle.std.proofs.Common.{arith, ap, sym, ◌∙◌, length}
 use Rattle.graph_model.specs.declared.graph.Node.{Node}
-use Rattle.topology.proofs.NameFacts.{index_of}
+use Rattle.graph_model.proofs.NameFacts.{index_of}
 use Rattle.headroom.proofs.FoundFacts.{node_at, none_named}
 use Rattle.headroom.proofs.found.index_of.Goals as goal
 

@@ -1,5 +1,5 @@
 use Rattle.std.proofs.Common.{◌≡◌, ℕ, ◌<◌}
-use Rattle.topology.specs.Named.{uid_at}
+use Rattle.graph_model.specs.Named.{uid_at}
 use Rattle.headroom.proofs.found.index_of.Given as goal
 
 -- no node before has the name

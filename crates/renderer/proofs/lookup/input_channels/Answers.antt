@@ -2,7 +2,7 @@ use Rattle.std.proofs.Common.{◌≡◌, sym, ◌∙◌, ap, Some}
 use Rattle.std.specs.List.{find}
 use Rattle.std.specs.Option.{option_copied}
 use Rattle.graph_model.specs.Graphs.{is_input}
-use Rattle.renderer.proofs.NodeFacts.{copied_some, input_exists, input_found}
+use Rattle.graph_model.proofs.NodeFacts.{copied_some, input_exists, input_found}
 use Rattle.renderer.proofs.lookup.input_channels.Goals as goal
 
 pub unwrap-requires : goal.unwrap-requires

@@ -3,8 +3,8 @@ use Rattle.std.specs.Prelude.{is_some}
 use Rattle.std.specs.List.{position}
 use Rattle.graph_model.specs.Paths.{is_live}
 use Rattle.graph_model.specs.declared.graph.Graph.{Graph}
-use Rattle.topology.proofs.NameFacts.{any_node}
-use Rattle.renderer.proofs.NodeFacts.{place_is}
+use Rattle.graph_model.proofs.NameFacts.{any_node}
+use Rattle.graph_model.proofs.NodeFacts.{place_is}
 use Rattle.renderer.proofs.RouteFacts.{destination_found}
 use Rattle.renderer.proofs.routes.leads_on.Goals as goal
 

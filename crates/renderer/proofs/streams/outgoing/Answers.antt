@@ -4,7 +4,7 @@ use Rattle.graph_model.specs.Histories.{Frame, History, before, frame_in, interl
 use Rattle.graph_model.specs.Kinds.{ins_of, stream_of}
 use Rattle.graph_model.specs.declared.graph.Bound.{Bound}
 use Rattle.fixed_kernels.specs.Kernels.{IsFrameWithin, Stands}
-use Rattle.renderer.proofs.StreamFacts.{frame_is, frame_within}
+use Rattle.graph_model.proofs.StreamFacts.{frame_is, frame_within}
 use Rattle.renderer.proofs.streams.outgoing.Goals as goal
 
 pub frame-requires-clause-within : goal.frame-requires-clause-within

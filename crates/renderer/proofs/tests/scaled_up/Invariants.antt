@@ -1,5 +1,5 @@
 use Rattle.std.proofs.Common.{◌≡◌, ◌^◌, length}
-use Rattle.renderer.specs.Samples.{AreUpTo}
+use Rattle.graph_model.specs.Bounds.{AreUpTo}
 use Rattle.renderer.proofs.tests.scaled_up.Given as goal
 
 -- the values so far

@@ -1,4 +1,4 @@
-use Rattle.topology.proofs.OrderOnce.{order_once}
+use Rattle.graph_model.proofs.OrderOnce.{order_once}
 use Rattle.topology.proofs.laws.order_is_unique.Goals as goal
 
 pub returns : goal.returns

@@ -1,5 +1,5 @@
 use Rattle.std.proofs.Common.{◌∙◌}
-use Rattle.topology.proofs.NameFacts.{names_in}
+use Rattle.graph_model.proofs.NameFacts.{names_in}
 use Rattle.topology.proofs.links.links.Goals as goal
 
 pub index_of-requires : goal.index_of-requires

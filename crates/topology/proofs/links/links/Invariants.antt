@@ -1,5 +1,5 @@
 use Rattle.std.proofs.Common.{◌≡◌, length, map, take}
-use Rattle.topology.specs.Named.{uid_at}
+use Rattle.graph_model.specs.Named.{uid_at}
 use Rattle.topology.specs.Links.{AreWithin}
 use Rattle.topology.specs.declared.links.Link.{Link}
 use Rattle.graph_model.specs.declared.graph.Connection.{Connection}

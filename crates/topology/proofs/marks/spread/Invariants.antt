@@ -1,7 +1,7 @@
 use Rattle.std.proofs.Common.{◌<◌, ◌≤◌, count_by, not}
 use Rattle.std.specs.Prelude.{MatchBool}
 use Rattle.graph_model.specs.declared.graph.Graph.{Graph}
-use Rattle.topology.specs.Named.{IsNamed}
+use Rattle.graph_model.specs.Named.{IsNamed}
 use Rattle.topology.specs.Links.{AreLinks}
 use Rattle.topology.specs.Marks.{AllLive, SpreadUpTo, KeepsMarks}
 use Rattle.topology.proofs.marks.spread.Given as goal

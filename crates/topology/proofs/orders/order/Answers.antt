@@ -1,7 +1,7 @@
 use Rattle.std.proofs.Common.{map}
 use Rattle.graph_model.specs.Checks.{IsClosedWalk}
 use Rattle.graph_model.proofs.WalkLaws.{cyclic}
-use Rattle.topology.specs.Named.{uid_at}
+use Rattle.graph_model.specs.Named.{uid_at}
 use Rattle.topology.specs.Answers.{IsOrderOfNodes}
 use Rattle.topology.proofs.OrderFacts.{order_is_acyclic}
 use Rattle.topology.proofs.orders.order.Goals as goal

@@ -1,6 +1,6 @@
 use Rattle.std.proofs.Common.{◌∙◌, ap, map}
 use Rattle.std.specs.Prelude.{reverse}
-use Rattle.topology.specs.Named.{uid_at}
+use Rattle.graph_model.specs.Named.{uid_at}
 use Rattle.topology.proofs.OrderFacts.{order_is_acyclic}
 use Rattle.topology.proofs.PathFacts.{printed}
 use Rattle.topology.proofs.reaches.longest.Goals as goal

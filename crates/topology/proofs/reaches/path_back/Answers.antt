@@ -3,7 +3,7 @@ use Rattle.std.proofs.lemmas.List.{map_push, append-nil}
 use Rattle.graph_model.specs.Graphs.{output_name}
 use Rattle.graph_model.specs.Paths.{IsPrinted}
 use Rattle.graph_model.specs.declared.graph.Uid.{Uid}
-use Rattle.topology.specs.Named.{uids_of, uid_at, latencies_of}
+use Rattle.graph_model.specs.Named.{uids_of, uid_at, latencies_of}
 use Rattle.topology.proofs.PathFacts.{IsWalked, numbers_small, read_name, walk_ends, walk_goes_on, step_falls}
 use Rattle.topology.proofs.reaches.path_back.Goals as goal
 

@@ -1,7 +1,7 @@
 use Rattle.std.proofs.Common.{map}
 use Rattle.graph_model.specs.Paths.{depth}
 use Rattle.graph_model.specs.declared.graph.Uid.{Uid}
-use Rattle.topology.specs.Named.{uid_at}
+use Rattle.graph_model.specs.Named.{uid_at}
 use Rattle.topology.proofs.PathFacts.{IsWalked}
 use Rattle.topology.proofs.reaches.path_back.Given as goal
 

@@ -1,5 +1,5 @@
 use Rattle.std.proofs.Common.{arith, ℕ, ◌<◌, ◌^◌, subst, List, get_or, length}
-use Rattle.topology.specs.Named.{latencies_of}
+use Rattle.graph_model.specs.Named.{latencies_of}
 use Rattle.topology.specs.Reaches.{IsPulled}
 use Rattle.topology.proofs.ReachFacts.{AreReached, reached_more, all_reached}
 use Rattle.topology.proofs.reaches.reaches.Goals as goal

@@ -1,7 +1,7 @@
 use Rattle.std.proofs.Common.{[], ◌∷◌, ◌∙◌, pos}
 use Rattle.graph_model.specs.declared.kind.Kind.TheVariants.{Gain, Input, Insert, Output}
 use Rattle.graph_model.proofs.Examples.{node}
-use Rattle.topology.specs.Named.{IsNamed}
+use Rattle.graph_model.specs.Named.{IsNamed}
 use Rattle.topology.proofs.TestGraphs.{fan_out, fan_out_named, as_listed, four_added}
 use Rattle.topology.proofs.tests.fan_out.Goals as goal
 

@@ -1,7 +1,7 @@
 use Rattle.std.proofs.Common.{[], ◌∷◌, ◌∙◌}
 use Rattle.graph_model.specs.declared.kind.Kind.TheVariants.{Delay, Input, Insert, Output}
 use Rattle.graph_model.proofs.Examples.{node}
-use Rattle.topology.specs.Named.{IsNamed}
+use Rattle.graph_model.specs.Named.{IsNamed}
 use Rattle.topology.proofs.TestGraphs.{out_of_order, out_of_order_named, as_listed, four_added}
 use Rattle.topology.proofs.tests.out_of_order.Goals as goal
 

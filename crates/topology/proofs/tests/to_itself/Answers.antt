@@ -1,7 +1,7 @@
 use Rattle.std.proofs.Common.{[], ◌∷◌, ◌++◌, ◌∙◌, ap, pos}
 use Rattle.graph_model.specs.declared.kind.Kind.TheVariants.{Gain}
 use Rattle.graph_model.proofs.Examples.{node}
-use Rattle.topology.specs.Named.{IsNamed}
+use Rattle.graph_model.specs.Named.{IsNamed}
 use Rattle.topology.proofs.TestGraphs.{to_itself, to_itself_named, as_listed}
 use Rattle.topology.proofs.tests.to_itself.Goals as goal
 

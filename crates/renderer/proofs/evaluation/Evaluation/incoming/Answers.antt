@@ -5,9 +5,9 @@ use Rattle.graph_model.specs.Graphs.{ins_at}
 use Rattle.graph_model.specs.Paths.{live_connections}
 use Rattle.graph_model.specs.declared.graph.Node.{Node}
 use Rattle.graph_model.specs.declared.graph.Graph.{Graph}
-use Rattle.topology.specs.Named.{uid_at}
-use Rattle.renderer.proofs.NodeFacts.{ins_is}
-use Rattle.renderer.specs.Samples.{AreUpTo}
+use Rattle.graph_model.specs.Named.{uid_at}
+use Rattle.graph_model.proofs.NodeFacts.{ins_is}
+use Rattle.graph_model.specs.Bounds.{AreUpTo}
 use Rattle.renderer.specs.Routes.{IsAdded}
 use Rattle.topology.proofs.LinkFacts.{any_connection}
 use Rattle.renderer.proofs.SumFacts.{AreSums, no_sums, sums_same, sums_more, sums_small, sums_all, route_place, route_at, from_within, to_within, to_channels, stream_outgoing, stream_long, stream_small, any_route, source_within}
@@ -22,7 +22,7 @@ loop-route-init c =
     c.ins-channels.ensures ∙ ap (λ (n : Node). ins_of n.kind) (c.index-as_slice-node.is ∙ ap (λ ns. get_or ns c.args.node node) nodes)
     ∙ sym (ins_is c.args.self.now.graph.now c.requires.state.sound c.args.node node c.requires.node) in
     subst (AreSums c.args.self.now c.args.node 0)
-    (sym (c.in_ok-sums.ensures.items_if_clones_equal (λ y same. same) ∙ ap (λ n. replicate (c.args.self.now.frames * n) (pos 0)) channels))
+    (sym (c.in_ok-sums.ensures ∙ ap (λ n. replicate (c.args.self.now.frames * n) (pos 0)) channels))
     (no_sums c.args.self.now c.requires.state c.args.node c.requires.node)
 
 pub bounds-streams-route : goal.bounds-streams-route

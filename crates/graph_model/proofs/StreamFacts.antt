@@ -1,4 +1,4 @@
--- The streams of the kinds, interleaved.
+-- The streams of the kinds: how wide and how long they are, and their frames one by one.
 use Rattle.std.proofs.Common.{◌≡◌, ℕ, zero, suc, ◌-◌, ◌*◌, ◌/◌, ◌%◌, ◌<◌, ◌≤◌, List, [], ◌∷◌, length, take, drop, take_all, get_or, ℤ, pos, refl, sym, ◌∙◌, ap, subst, arith, true, false}
 use Rattle.std.specs.Prelude.{unsigned_abs}
 use Rattle.std.proofs.lemmas.Bool.{false≢true}
@@ -6,15 +6,14 @@ use Rattle.std.proofs.lemmas.List.{append-nil, length-drop}
 use Rattle.std.proofs.lemmas.List.FromFn.{length-map-range_with_len}
 use Rattle.std.proofs.lemmas.Nat.{div-add-mod'}
 use Rattle.graph_model.specs.Histories.{Frame, History, before, frame_in, interleaved}
-use Rattle.graph_model.specs.StreamLaws.{length-each}
 use Rattle.graph_model.specs.Kinds.{outs_of, rule_of, stream_of}
 use Rattle.graph_model.specs.Graphs.{is_input}
 use Rattle.graph_model.specs.Bounds.{IsWithin}
 use Rattle.graph_model.specs.Answers.{given_by}
 use Rattle.graph_model.specs.declared.kind.Kind.{Kind}
 use Rattle.graph_model.specs.declared.kind.Kind.TheVariants.{Input, Output, Gain, Mixer, Fir, Biquad, Limiter, Delay, Insert}
-use Rattle.fixed_kernels.specs.Kernels.{IsFrameWithin}
-use Rattle.renderer.proofs.Interleaving.{AreWide, wide-each}
+use Rattle.graph_model.specs.Kernels.{IsFrameWithin}
+use Rattle.graph_model.proofs.Interleaving.{AreWide, wide-each}
 
 -- ---- whole frames
 pub frames_whole : (l k : ℕ) → l % k ≡ 0 → l ≡ l / k * k
@@ -41,12 +40,9 @@ pub wide-given : (kind : Kind) (h s : History) → (is_input kind ≡ true → A
 wide-given (Input n) h s w = w refl
 wide-given kind h s w = wide-each (outs_of kind) (rule_of kind) (rule_wide kind) s
 
-pub long-given : (kind : Kind) (h s : History) → length s ≡ length h → length (given_by kind h s) ≡ length h
-long-given (Input n) h s e = refl
-long-given kind h s e = length-each (rule_of kind) s ∙ e
-
-pub given_input : (kind : Kind) (n : ℕ) (h s : History) → kind ≡ Input n → given_by kind h s ≡ h
-given_input kind n h s is = ap (λ k. given_by k h s) is
+pub given_input : (kind : Kind) (h s : History) → is_input kind ≡ true → given_by kind h s ≡ h
+given_input (Input n) h s is = refl
+given_input kind h s is = absurd (false≢true is)
 
 pub given_processor : (kind : Kind) (h s : History) → is_input kind ≡ false → given_by kind h s ≡ stream_of kind s
 given_processor (Input n) h s isnt = absurd (false≢true (sym isnt))

@@ -1,9 +1,13 @@
 -- Names and indexes of nodes.
-use Rattle.std.proofs.Common.{◌≡◌, ℕ, zero, suc, ◌<◌, List, [], ◌∷◌, length, get_or, refl, sym, ◌∙◌, ap, subst, Bool, true, false, cond, Some, arith, ◌==◌, inl, inr}
-use Rattle.std.specs.Prelude.{is_some, find}
-use Rattle.std.specs.List.{Contains}
+use Rattle.std.proofs.Common.{◌≡◌, ℕ, ◌<◌, List, length, get_or, sym, ◌∙◌, ap, subst, Some, arith, ◌==◌, inl, inr}
+use Rattle.std.specs.Prelude.{is_some}
+use Rattle.std.specs.List.{Contains, position_or_len, slice_get}
 use Rattle.std.proofs.lemmas.List.{get_or-map, get_or_default, length-map}
-use Rattle.std.proofs.lemmas.Bool.{cases_lt, cases_eq, eqb-true}
+use Rattle.std.proofs.lemmas.Bool.{cases_lt, cases_eq}
+use Rattle.std.proofs.lemmas.List.Folds.{find_at}
+use Rattle.std.proofs.lemmas.List.Sums.{position_or_len_is}
+use Rattle.std.proofs.lemmas.Option.{slice_get-get_or}
+use Rattle.graph_model.proofs.Common.{not_same}
 use Rattle.graph_model.specs.Graphs.{node_named, IsNode, latency_at, or_zero}
 use Rattle.graph_model.specs.Kinds.{latency_of}
 use Rattle.graph_model.specs.declared.kind.Kind.TheVariants.{Input}
@@ -14,7 +18,7 @@ use Rattle.graph_model.specs.declared.graph.Node.{Node}
 use Rattle.graph_model.specs.declared.graph.Graph.{Graph}
 use Rattle.graph_model.proofs.PathLaws.{same_name}
 use Rattle.graph_model.proofs.RankLaws.{node_in}
-use Rattle.topology.specs.Named.{IsNamed, uids_of, uid_at, latencies_of}
+use Rattle.graph_model.specs.Named.{IsNamed, uids_of, uid_at, latencies_of}
 
 abbrev pub any_node : Node
 any_node = record { uid = record { 0 = 0 }; kind = Input 0 }
@@ -27,22 +31,6 @@ same_uid u v e = λ i. record { 0 = e i }
 
 pub name_is : (g : Graph) (i : ℕ) → i < length g.nodes → uid_at g i ≡ (get_or g.nodes i any_node).uid.0
 name_is g i lt = get_or-map (λ (n : Node). n.uid.0) g.nodes i any_node 0 lt
-
-not_same : (a b : ℕ) → (a ≡ b → ⊥) → (a == b) ≡ false
-not_same a b ne = go (a == b) refl
-  where
-    go : (t : Bool) → (a == b) ≡ t → t ≡ false
-    go true e = absurd (ne (eqb-true a b e))
-    go false e = refl
-
--- the first node of a name
-find_first : (ns : List Node) (i : ℕ) → i < length ns → ((j : ℕ) → j < i → (get_or ns j any_node).uid.0 ≡ (get_or ns i any_node).uid.0 → ⊥)
-    → find (λ n. n.uid.0 == (get_or ns i any_node).uid.0) ns ≡ Some (get_or ns i any_node)
-find_first [] i lt first = absurd (omega arith)
-find_first (n ∷ ns) zero lt first = ap (λ b. cond b (Some n) (find (λ m. m.uid.0 == n.uid.0) ns)) (same_name n.uid.0)
-find_first (n ∷ ns) (suc i) lt first =
-    ap (λ b. cond b (Some n) (find (λ m. m.uid.0 == (get_or ns i any_node).uid.0) ns)) (not_same n.uid.0 (get_or ns i any_node).uid.0 (first 0 (omega arith)))
-    ∙ find_first ns i (omega arith) (λ j l. first (suc j) (omega arith))
 
 -- some index of a name
 pub index_of : (g : Graph) (v : ℕ) → IsNode g v → (i : ℕ) × (i < length g.nodes) × (uid_at g i ≡ v)
@@ -69,16 +57,31 @@ module _ (g : Graph) (named : IsNamed g) where
             ]
       ]
 
-  found_at : (i : ℕ) → i < length g.nodes → node_named g (uid_at g i) ≡ Some (get_or g.nodes i any_node)
-  found_at i lt =
-      ap (node_named g) (name_is g i lt)
-      ∙ find_first g.nodes i lt (λ j less same. earlier j i less lt (name_is g j (omega arith) ∙ same ∙ sym (name_is g i lt)))
+  -- the first place of a node's name is its index
+  first_there : (j : ℕ) (d : Node) → j < length g.nodes → position_or_len (λ n. n.uid.0 == (get_or g.nodes j d).uid.0) g.nodes ≡ j
+  first_there j d lt =
+      position_or_len_is (λ n. n.uid.0 == (get_or g.nodes j d).uid.0) g.nodes j d (omega arith)
+      (λ k l. not_same (get_or g.nodes k d).uid.0 (get_or g.nodes j d).uid.0
+      (λ e. named.uids_differ k j d l lt (same_uid (get_or g.nodes k d).uid (get_or g.nodes j d).uid e)))
+      (λ _. same_name (get_or g.nodes j d).uid.0)
+
+  pub named_there : (j : ℕ) (d : Node) → j < length g.nodes → node_named g (get_or g.nodes j d).uid.0 ≡ Some (get_or g.nodes j d)
+  named_there j d lt =
+      find_at (λ n. n.uid.0 == (get_or g.nodes j d).uid.0) g.nodes ∙ ap (slice_get g.nodes) (first_there j d lt) ∙ slice_get-get_or g.nodes j d lt
+
+  -- the first place of the name at an index is the index
+  pub first_place : (i : ℕ) (d : Node) → i < length g.nodes → position_or_len (λ n. n.uid.0 == uid_at g i) g.nodes ≡ i
+  first_place i d lt = ap (λ v. position_or_len (λ n. n.uid.0 == v) g.nodes) (get_or-map (λ (n : Node). n.uid.0) g.nodes i d 0 lt) ∙ first_there i d lt
+
+  -- the node at an index is the one of its name
+  pub node_is : (i : ℕ) (d : Node) → i < length g.nodes → node_named g (uid_at g i) ≡ Some (get_or g.nodes i d)
+  node_is i d lt = ap (node_named g) (get_or-map (λ (n : Node). n.uid.0) g.nodes i d 0 lt) ∙ named_there i d lt
 
   pub is_node : (i : ℕ) → i < length g.nodes → IsNode g (uid_at g i)
-  is_node i lt = ap is_some (found_at i lt)
+  is_node i lt = ap is_some (node_is i any_node lt)
 
   pub latency_is : (i : ℕ) → i < length g.nodes → latency_at g (uid_at g i) ≡ get_or (latencies_of g) i 0
-  latency_is i lt = ap (or_zero latency_of) (found_at i lt) ∙ sym (get_or-map (λ (n : Node). latency_of n.kind) g.nodes i any_node 0 lt)
+  latency_is i lt = ap (or_zero latency_of) (node_is i any_node lt) ∙ sym (get_or-map (λ (n : Node). latency_of n.kind) g.nodes i any_node 0 lt)
 
 -- both names of a connection stand in the list of names
 pub names_in : (g : Graph) → IsNamed g → (us : List ℕ) (cs : List Connection) → us ≡ uids_of g → cs ≡ g.connections

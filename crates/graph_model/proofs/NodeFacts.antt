@@ -1,6 +1,6 @@
 -- The nodes of a sound graph, by name and by index.
 use Rattle.std.proofs.Common.{◌≡◌, ℕ, zero, suc, ◌+◌, ◌<◌, List, [], ◌∷◌, length, get_or, refl, sym, ◌∙◌, ap, subst, Bool, true, false, cond, arith, Option, Some, None, ◌==◌, inl, inr, Bor}
-use Rattle.std.specs.Prelude.{IsSome, count_by, ◌≢◌}
+use Rattle.std.specs.Prelude.{IsSome, count_by}
 use Rattle.std.specs.List.{find, AllByRecursion, Contains, position, position_or_len, slice_get}
 use Rattle.std.specs.Option.{is_some, option_copied}
 use Rattle.std.proofs.lemmas.Bool.{eqb-true, false≢true, lt-ltb}
@@ -11,30 +11,24 @@ use Rattle.std.proofs.lemmas.List.Quantifiers.{position-Some}
 use Rattle.std.proofs.lemmas.List.Sums.{position_or_len_is, sum_by-cons}
 use Rattle.std.proofs.lemmas.Option.{slice_get-get_or, slice_get_cases, slice_get_within, get_or_from_slice_get}
 use Rattle.graph_model.specs.Kinds.{ins_of, outs_of, latency_of}
-use Rattle.graph_model.specs.Graphs.{IsNode, or_zero, node_named, ins_at, outs_at, latency_at, is_input, input_name, name_or_zero}
+use Rattle.graph_model.specs.Graphs.{IsNode, or_zero, node_named, ins_at, outs_at, latency_at, is_input, is_output, input_name, output_name, name_or_zero}
 use Rattle.graph_model.specs.Members.{bad_member}
 use Rattle.graph_model.specs.Paths.{IsPathTo, latencies, reach, depth}
 use Rattle.graph_model.specs.Ranges.{IsInRange, HasRange}
 use Rattle.graph_model.specs.Sound.{IsSound}
-use Rattle.graph_model.proofs.PathLaws.{same_name}
 use Rattle.graph_model.proofs.RangeLaws.{in_range}
 use Rattle.graph_model.proofs.RankLaws.{nodes_exist, sound_is_ranked}
 use Rattle.graph_model.proofs.ReachLaws.{reach_is_longest}
 use Rattle.graph_model.specs.declared.kind.Kind.{Kind}
 use Rattle.graph_model.specs.declared.kind.Kind.TheVariants.{Input}
-use Rattle.graph_model.specs.declared.graph.Uid.{Uid}
 use Rattle.graph_model.specs.declared.graph.Node.{Node}
 use Rattle.graph_model.specs.declared.graph.Connection.{Connection}
 use Rattle.graph_model.specs.declared.graph.Graph.{Graph}
-use Rattle.topology.specs.Named.{IsNamed, uid_at}
+use Rattle.graph_model.specs.Named.{IsNamed, uid_at}
+use Rattle.graph_model.proofs.Common.{none_is_some, some_same}
+use Rattle.graph_model.proofs.NameFacts.{named_there, node_is}
 
 -- ---- what is found in a list
-none_is_some : {X : Type 0} {x : X} → None ≡ Some x → ⊥
-none_is_some e = cc
-
-some_same : {X : Type 0} {x y : X} → Some x ≡ Some y → x ≡ y
-some_same e = cc
-
 -- what is found passes, and has what all have
 pub find-all : {X : Type 0} (p : X → Bool) (P : X → Type 0) (xs : List X) (x : X) → AllByRecursion P xs → find p xs ≡ Some x → P x × (p x ≡ true)
 find-all p P [] x h e = absurd (none_is_some e)
@@ -109,29 +103,6 @@ module _ (g : Graph) (sound : IsSound g) where
   pub range_at : (i : ℕ) (d : Node) → i < length g.nodes → IsInRange (get_or g.nodes i d)
   range_at i d lt = in_range (get_or g.nodes i d) (sound.shaped.in_range i d lt)
 
-  differs : (a b : Uid) → a ≢ b → (a.0 == b.0) ≡ false
-  differs a b ne =
-      elim (a.0 == b.0) as (λ t. (a.0 == b.0) ≡ t → t ≡ false)
-      [ true ↦ λ e. absurd (ne (let same : a.0 ≡ b.0 = eqb-true _ _ e in λ i. record { 0 = same i })) | false ↦ λ e. refl ] refl
-
-  first_there : (j : ℕ) (d : Node) → j < length g.nodes → position_or_len (λ n. n.uid.0 == (get_or g.nodes j d).uid.0) g.nodes ≡ j
-  first_there j d lt =
-      position_or_len_is (λ n. n.uid.0 == (get_or g.nodes j d).uid.0) g.nodes j d (omega arith)
-      (λ k l. differs (get_or g.nodes k d).uid (get_or g.nodes j d).uid (sound.shaped.uids_differ k j d l lt))
-      (λ _. same_name (get_or g.nodes j d).uid.0)
-
-  named_there : (j : ℕ) (d : Node) → j < length g.nodes → node_named g (get_or g.nodes j d).uid.0 ≡ Some (get_or g.nodes j d)
-  named_there j d lt =
-      find_at (λ n. n.uid.0 == (get_or g.nodes j d).uid.0) g.nodes ∙ ap (slice_get g.nodes) (first_there j d lt) ∙ slice_get-get_or g.nodes j d lt
-
-  -- the first place of the name at an index is the index
-  pub first_place : (i : ℕ) (d : Node) → i < length g.nodes → position_or_len (λ n. n.uid.0 == uid_at g i) g.nodes ≡ i
-  first_place i d lt = ap (λ v. position_or_len (λ n. n.uid.0 == v) g.nodes) (get_or-map (λ (n : Node). n.uid.0) g.nodes i d 0 lt) ∙ first_there i d lt
-
-  -- the node at an index is the one of its name
-  pub node_is : (i : ℕ) (d : Node) → i < length g.nodes → node_named g (uid_at g i) ≡ Some (get_or g.nodes i d)
-  node_is i d lt = ap (node_named g) (get_or-map (λ (n : Node). n.uid.0) g.nodes i d 0 lt) ∙ named_there i d lt
-
   -- what is found has its name
   name_of : (v : ℕ) (node : Node) → node_named g v ≡ Some node → node.uid.0 ≡ v
   name_of v node e = eqb-true _ _ (find-all (λ n. n.uid.0 == v) (λ n. bad_member n ≡ None) g.nodes node (recursion_from_All _ g.nodes sound.shaped.in_range) e).1
@@ -144,13 +115,13 @@ module _ (g : Graph) (sound : IsSound g) where
 
   -- ---- the numbers of a node, by index
   pub outs_is : (i : ℕ) (d : Node) → i < length g.nodes → outs_at g (uid_at g i) ≡ outs_of (get_or g.nodes i d).kind
-  outs_is i d lt = ap (or_zero outs_of) (node_is i d lt)
+  outs_is i d lt = ap (or_zero outs_of) (node_is g named i d lt)
 
   pub ins_is : (i : ℕ) (d : Node) → i < length g.nodes → ins_at g (uid_at g i) ≡ ins_of (get_or g.nodes i d).kind
-  ins_is i d lt = ap (or_zero ins_of) (node_is i d lt)
+  ins_is i d lt = ap (or_zero ins_of) (node_is g named i d lt)
 
   pub latency_is : (i : ℕ) (d : Node) → i < length g.nodes → latency_at g (uid_at g i) ≡ latency_of (get_or g.nodes i d).kind
-  latency_is i d lt = ap (or_zero latency_of) (node_is i d lt)
+  latency_is i d lt = ap (or_zero latency_of) (node_is g named i d lt)
 
   -- ---- the input node
   -- what is found by a test has its name
@@ -159,7 +130,7 @@ module _ (g : Graph) (sound : IsSound g) where
       let s : slice_get g.nodes (position_or_len p g.nodes) ≡ Some node = sym (find_at p g.nodes) ∙ e in
       let l : position_or_len p g.nodes < length g.nodes = slice_get_within g.nodes (position_or_len p g.nodes) node s in
       let here : get_or g.nodes (position_or_len p g.nodes) node ≡ node = get_or_from_slice_get g.nodes (position_or_len p g.nodes) node node s in
-      subst (λ n. node_named g n.uid.0 ≡ Some n) here (named_there (position_or_len p g.nodes) node l)
+      subst (λ n. node_named g n.uid.0 ≡ Some n) here (named_there g named (position_or_len p g.nodes) node l)
 
   pub input_exists : IsSome (find (λ n. is_input n.kind) g.nodes)
   input_exists = some_one (λ n. is_input n.kind) g.nodes sound.shaped.ends.0
@@ -193,6 +164,17 @@ module _ (g : Graph) (sound : IsSound g) where
             (let there = found_named (λ n. is_input n.kind) n e in
             let is = find-all (λ n. is_input n.kind) (λ n. bad_member n ≡ None) g.nodes n (recursion_from_All _ g.nodes sound.shaped.in_range) e in
             (ap is_some there, ap (or_zero ins_of) there ∙ no_ins n.kind is.1))
+      ] refl
+
+  -- ---- the output node
+  output_exists : IsSome (find (λ n. is_output n.kind) g.nodes)
+  output_exists = some_one (λ n. is_output n.kind) g.nodes sound.shaped.ends.1
+
+  pub output_is_node : IsNode g (output_name g)
+  output_is_node =
+      elim (find (λ n. is_output n.kind) g.nodes) as (λ o. find (λ n. is_output n.kind) g.nodes ≡ o → IsNode g (name_or_zero o)) [
+        | None ↦ λ e. absurd (false≢true (sym (ap is_some e) ∙ output_exists))
+        | Some n ↦ λ e. ap is_some (found_named (λ n. is_output n.kind) n e)
       ] refl
 
   -- ---- the connections

@@ -1,4 +1,4 @@
--- Graphs whose connections can be followed.
+-- The nodes of a graph by index, and graphs whose connections can be followed.
 use Rattle.std.specs.Prelude.{◌≡◌, ◌≢◌, ℕ, List, map, count_by, AllPairs, slice_index}
 use Rattle.std.specs.List.{All}
 use Rattle.graph_model.specs.Graphs.{IsNode, is_output}

@@ -1,7 +1,8 @@
--- There is one order at most.
+-- There is one order of the nodes at most.
 use Rattle.std.proofs.Common.{◌≡◌, ℕ, zero, suc, ◌<◌, ◌≤◌, List, length, get_or, sym, ◌∙◌, subst, arith, inl, inr}
 use Rattle.std.proofs.lemmas.List.{ext_get_or}
 use Rattle.std.proofs.lemmas.Bool.{cases_lt}
+use Rattle.graph_model.specs.Laws.{OrderIsUnique}
 use Rattle.graph_model.specs.Orders.{StandsBefore, IsNext, IsOrder}
 use Rattle.graph_model.specs.declared.graph.Graph.{Graph}
 
@@ -45,7 +46,7 @@ no_longer g os ps o p =
       | inr le ↦ le
     ]
 
-pub order_once : (g : Graph) (os ps : List ℕ) → IsOrder g os → IsOrder g ps → os ≡ ps
+pub order_once : OrderIsUnique
 order_once g os ps o p =
     let one = no_longer g os ps o p in
     let two = no_longer g ps os p o in

@@ -1,7 +1,6 @@
 -- Interleaved samples of histories.
-use Rattle.std.proofs.Common.{◌≡◌, ℕ, zero, suc, ◌+◌, ◌-◌, ◌*◌, ◌/◌, ◌%◌, ◌<◌, ◌≤◌, List, [], ◌∷◌, ◌++◌, length, map, get_or, ℤ, pos, sym, ap, ◌∙◌, subst, arith, ⊎_elim}
+use Rattle.std.proofs.Common.{◌≡◌, ℕ, zero, suc, ◌+◌, ◌-◌, ◌*◌, ◌/◌, ◌%◌, ◌<◌, ◌≤◌, List, [], ◌∷◌, ◌++◌, length, map, get_or, ℤ, pos, sym, ap, ◌∙◌, subst, arith}
 use Rattle.std.specs.List.{AllByRecursion, range_with_len}
-use Rattle.std.proofs.lemmas.Bool.{cases_lt}
 use Rattle.std.proofs.lemmas.List.{length-append, get_or_append_left, get_or-append-add}
 use Rattle.std.proofs.lemmas.List.FromFn.{length-map-range_with_len, fill_by_all}
 use Rattle.std.proofs.lemmas.Nat.{div-add-mod'}
@@ -9,6 +8,7 @@ use Rattle.std.proofs.Math.Nat.{suc-mul, mul-le-mul_right, mod-lt, div-lt_iff_lt
 use Rattle.graph_model.specs.Histories.{Frame, History, sample, history_of, before, frame_in, frames_of, interleaved, each}
 use Rattle.graph_model.proofs.HistoryLaws.{length-history_of, sample-history_of}
 use Rattle.graph_model.proofs.BlockLaws.{whole, length-frame_in}
+use Rattle.graph_model.proofs.Common.{by_lt}
 
 -- every frame has m samples
 abbrev pub AreWide : ℕ → History → Type 0
@@ -35,9 +35,6 @@ length-interleaved m (f ∷ h) w =
     let rest = length-interleaved m h w.1 in
     let here = w.0 in
     omega (arith, length-append (interleaved h) f, suc-mul (length h) m)
-
-by_lt : {P : Type 0} (a b : ℕ) → (a < b → P) → (b ≤ a → P) → P
-by_lt a b f g = ⊎_elim f g (cases_lt a b)
 
 -- frame t came in `length h - 1 - t` frames ago
 pub get_or-interleaved : (m : ℕ) (h : History) → AreWide m h → (t c : ℕ) → t < length h → c < m

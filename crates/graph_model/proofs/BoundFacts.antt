@@ -8,7 +8,14 @@ use Rattle.std.proofs.lemmas.List.FromFn.{length-map-range_with_len}
 use Rattle.graph_model.specs.StreamLaws.{map-range_same}
 use Rattle.graph_model.specs.Graphs.{IsRanked, IsNode, node_named, ins_at, outs_at, or_zero, connections_to}
 use Rattle.graph_model.specs.Kinds.{ins_of, outs_of}
-use Rattle.graph_model.specs.Bounds.{in_bounds, given_bounds, bounds_within, bounds, out_bounds}
+use Rattle.std.specs.Prelude.{unsigned_abs, min, ◌-◌, ◌*◌, ◌^◌}
+use Rattle.std.proofs.lemmas.List.{length-map, length-replicate}
+use Rattle.graph_model.specs.Rounding.{rounded_nat}
+use Rattle.graph_model.specs.Filters.{gains_to}
+use Rattle.graph_model.specs.Bounds.{weight, weighed, in_bounds, given_bounds, bounds_within, bounds, out_bounds}
+use Rattle.graph_model.specs.declared.kind.Kind.{Kind}
+use Rattle.graph_model.specs.declared.kind.Kind.TheVariants.{Input, Output, Gain, Mixer, Fir, Biquad, Limiter, Delay, Insert}
+use Rattle.graph_model.specs.Laws.{BoundsFollowTheTable}
 use Rattle.graph_model.specs.Paths.{depth}
 use Rattle.graph_model.specs.Sound.{IsShaped}
 use Rattle.graph_model.proofs.HistoryLaws.{filter_all}
@@ -16,7 +23,6 @@ use Rattle.graph_model.proofs.AnswerLaws.{into_v}
 use Rattle.graph_model.proofs.RankLaws.{shaped_is_ranked}
 use Rattle.graph_model.specs.declared.graph.Node.{Node}
 use Rattle.graph_model.specs.declared.graph.Graph.{Graph}
-use Rattle.headroom.proofs.OutputFacts.{length-out_bounds}
 
 -- ---- sums
 sum_same : {X : Type 0} (f h : X → ℕ) (xs : List X) → AllByRecursion (λ x. f x ≡ h x) xs → sum_by f xs ≡ sum_by h xs
@@ -48,7 +54,22 @@ outs_are g shaped v n named =
     settles g (depth g) ranked (length g.nodes) v (ranked.below v (ap is_some named))
     ∙ ap (λ node. given_bounds node (in_bounds g (bounds_within g (length g.nodes)) v)) named
 
+-- and the input channels have the sums of those of the output channels that are connected to them
+pub bounds_follow : BoundsFollowTheTable
+bounds_follow g shaped v n named = (refl, outs_are g shaped v n named)
+
 -- ---- one bound for each channel
+pub length-out_bounds : (kind : Kind) (bs : List ℕ) → length bs ≡ ins_of kind → length (out_bounds kind bs) ≡ outs_of kind
+length-out_bounds (Input channels) bs e = length-replicate channels (2 ^ 31)
+length-out_bounds (Output channels) bs e = refl
+length-out_bounds (Gain channels gain) bs e = length-map bs (λ b. rounded_nat (unsigned_abs gain * b) 16) ∙ e
+length-out_bounds (Mixer ins outs gains) bs e = length-map-range_with_len (λ o. rounded_nat (weighed (gains_to ins gains o) bs) 16) 0 outs
+length-out_bounds (Fir channels taps shift latency) bs e = length-map bs (λ b. rounded_nat (weight taps * b) shift) ∙ e
+length-out_bounds (Biquad channels b0 b1 b2 a1 a2 shift bits) bs e = length-map bs (λ b. 2 ^ bits - 1) ∙ e
+length-out_bounds (Limiter channels threshold lookahead) bs e = length-map bs (λ b. min b threshold) ∙ e
+length-out_bounds (Delay channels samples) bs e = e
+length-out_bounds (Insert channels samples) bs e = e
+
 pub length-ins : (g : Graph) (v : ℕ) → length (bounds g v).ins ≡ ins_at g v
 length-ins g v = length-map-range_with_len (λ d. sum_by (λ c. get_or (bounds_within g (length g.nodes) c.src.0) c.src_channel 0) (connections_to g v d)) 0 (ins_at g v)
 
