@@ -32,7 +32,6 @@ pub mod LastLaws
 pub mod ValueLaws
 pub mod BestLaws
 pub mod MakeLaws
-pub mod GraphTwins
 pub mod ScheduleLaws
 pub mod OneLaws
 pub mod HomeLaws

@@ -23,8 +23,8 @@ use Rattle.plan_model.specs.declared.buffers.Home.{Home}
 use Rattle.plan_model.specs.declared.alignment.LineAt.{LineAt}
 use Rattle.plan_model.specs.declared.rule.Rule.TheVariants.{At, Input, Alignment, Latency, Lines, Total, Path, Longest, Arcs, Need, Bound, Least, Waves, Homes, Channels, Peak}
 use Rattle.plan_model.proofs.CertifiedLaws.{path_sum, sum_lines}
-use Rattle.plan_model.proofs.DualityLaws.{output_is_node}
-use Rattle.plan_model.proofs.GraphTwins.{printed_is_longest}
+use Rattle.graph_model.proofs.NodeFacts.{output_is_node}
+use Rattle.graph_model.proofs.PrintedLaws.{printed_is_longest}
 use Rattle.plan_model.proofs.ValueLaws.{values_are_listed}
 
 -- the homes of the lives of some ports are for these ports

@@ -24,7 +24,7 @@ use Rattle.plan_model.specs.declared.plan.Plan.{Plan}
 use Rattle.plan_model.specs.declared.rule.Rule.TheVariants.{At, Lines, Total, Least, Homes, Channels, Peak}
 use Rattle.plan_model.proofs.BestLaws.{best_is_one}
 use Rattle.plan_model.proofs.CertifiedLaws.{certified_is_optimal}
-use Rattle.plan_model.proofs.GraphTwins.{printed_is_one}
+use Rattle.graph_model.proofs.PrintedLaws.{printed_is_one}
 use Rattle.plan_model.proofs.ScheduleLaws.{schedule_once, uids_same}
 use Rattle.plan_model.proofs.ShiftLaws.{latency_is_reach}
 use Rattle.plan_model.proofs.UniqueLaws.{live_nodes_are_unique, values_are_unique}

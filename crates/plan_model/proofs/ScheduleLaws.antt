@@ -6,6 +6,7 @@ use Rattle.std.specs.List.Sorted.{IsStrictlyIncreasing}
 use Rattle.std.proofs.lemmas.Bool.{cases_lt}
 use Rattle.std.proofs.lemmas.List.{ext_get_or, get_or-take, length-take, take_all}
 use Rattle.std.proofs.lemmas.List.Elements.{All-contains, All-from_recursion, Contains-get_or}
+use Rattle.std.proofs.lemmas.Option.{slice_get-get_or}
 use Rattle.std.proofs.lemmas.List.Kept.{AllPairs-from_increasing}
 use Rattle.graph_model.specs.Graphs.{IsNode, output_name}
 use Rattle.graph_model.specs.Orders.{StandsBefore, HasSources, IsNext, IsOrder}
@@ -22,13 +23,13 @@ use Rattle.plan_model.specs.Schedules.{IsSchedule, IsOneByOne, IsByWaves, OneByO
 use Rattle.plan_model.specs.declared.schedule.Mode.{Mode}
 use Rattle.plan_model.specs.declared.schedule.Mode.TheVariants.{OneByOne, Waves}
 use Rattle.plan_model.specs.declared.schedule.Wave.{Wave}
-use Rattle.plan_model.proofs.BestLaws.{ends_live_of}
+use Rattle.graph_model.proofs.Common.{some_same}
+use Rattle.graph_model.proofs.LiveLaws.{ends_live, live_by, live_test}
 use Rattle.plan_model.proofs.CertifiedLaws.{stands_in}
 use Rattle.plan_model.proofs.ExampleTools.{rising}
-use Rattle.plan_model.proofs.GraphTwins.{order_once}
-use Rattle.plan_model.proofs.PlaceLaws.{item}
+use Rattle.graph_model.proofs.OrderOnce.{order_once}
 use Rattle.plan_model.proofs.UniqueLaws.{same_entries}
-use Rattle.plan_model.proofs.WaveLaws.{first_with, in_any, in_earlier, kept, not_before, shown, tested, waves_by_entries}
+use Rattle.plan_model.proofs.WaveLaws.{first_with, in_any, in_earlier, not_before, waves_by_entries}
 
 -- ---- waves by their names
 abbrev named : ℕ → Uid
@@ -128,7 +129,7 @@ module _ (g : Graph) (sound : IsSound g) (os : List ℕ) (order : IsOrder g os) 
   next_wave k v e = record {
     filled = omega arith;
     rising = rising (v ∷ []) tt;
-    live = All-from_recursion (IsLive g) (v ∷ []) (shown g sound ones v is, tt);
+    live = All-from_recursion (IsLive g) (v ∷ []) (live_by g sound v is, tt);
     fresh = All-from_recursion (λ u. Contains (flat_map names (take k ones)) u → ⊥) (v ∷ []) (new, tt);
     ready = λ n d lt reads. ready (get_or (live_connections g) n d) (Contains-get_or (live_connections g) n d lt) reads;
   }
@@ -151,7 +152,7 @@ module _ (g : Graph) (sound : IsSound g) (os : List ℕ) (order : IsOrder g os) 
       ready : (c : Connection) → Contains (live_connections g) c → Contains (v ∷ []) c.dst.0 → Contains (flat_map names (take k ones)) c.src.0
       ready c has reads =
           let dst : v ≡ c.dst.0 = elim (first_or_later v c.dst.0 [] reads) [ inl same ↦ same | inr there ↦ (let l = there.1 in absurd (omega arith)) ] in
-          let live = tested g sound ones c.src.0 (ends_live_of g sound c has).0 in
+          let live = live_test g sound c.src.0 (ends_live g sound c has).0 in
           let all = filter_from (λ d. is_live g d.dst.0) g.connections c has in
           let stands : StandsBefore os at.0 c.src.0 = All-contains (λ d. d.dst.0 ≡ v → StandsBefore os at.0 d.src.0) g.connections c next.ready all.0 (sym dst) in
           subst (λ ws. Contains ws c.src.0) (sym before)
@@ -160,7 +161,7 @@ module _ (g : Graph) (sound : IsSound g) (os : List ℕ) (order : IsOrder g os) 
   ones_schedule : IsSchedule g ones
   ones_schedule = (waves_by_entries g ones sound).0 (λ k. record {
     next = λ w e. (let o = one_at lives k w e in subst (IsNextWave g (take k ones)) o.2 (next_wave k o.0 o.1));
-    all = λ e v live. subst (λ ws. Contains ws v) (sym (names_all lives)) (filter_has (is_live g) os v (everywhere v live) (tested g sound ones v live));
+    all = λ e v live. subst (λ ws. Contains ws v) (sym (names_all lives)) (filter_has (is_live g) os v (everywhere v live) (live_test g sound v live));
   })
     where
       everywhere : (v : ℕ) → IsLive g v → Contains os v
@@ -178,9 +179,6 @@ modes_are_schedules g Waves waves sound s = s.schedule
 pub one_by_one_once : (g : Graph) (ws xs : List Wave) → IsOneByOne g ws → IsOneByOne g xs → ws ≡ xs
 one_by_one_once g ws xs (os, o, same) (ps, p, alike) =
     waves_same ws xs (same ∙ ap (λ vs. map (λ v. v ∷ []) (filter (is_live g) vs)) (order_once g os ps o p) ∙ sym alike)
-
-some_same : (w x : Wave) → Some w ≡ Some x → w ≡ x
-some_same w x e = cc
 
 one_depth : (g : Graph) (v m n : ℕ) → IsDepth g v m → IsDepth g v n → m ≡ n
 one_depth g v m n a b =
@@ -216,7 +214,7 @@ module _ (g : Graph) (sound : IsSound g) where
     as_many : length ws ≤ length xs
     as_many = elim (cases_lt (length xs) (length ws)) [
       | inl more ↦
-          (let e = item ws (length xs) (wave_of_one 0) more in
+          (let e = slice_get-get_or ws (length xs) (wave_of_one 0) more in
           let w = get_or ws (length xs) (wave_of_one 0) in
           let filled = a.schedule.filled (length xs) (wave_of_one 0) more in
           let some = first_name (get_or ws (length xs) (wave_of_one 0)) filled in
@@ -246,8 +244,8 @@ module _ (g : Graph) (sound : IsSound g) where
       same_at k l =
           let w : Wave = get_or ws k (wave_of_one 0) in
           let x : Wave = get_or xs k (wave_of_one 0) in
-          let e = item ws k (wave_of_one 0) l in
-          let f = item xs k (wave_of_one 0) (let n = long in omega arith) in
+          let e = slice_get-get_or ws k (wave_of_one 0) l in
+          let f = slice_get-get_or xs k (wave_of_one 0) (let n = long in omega arith) in
           let up = AllPairs-from_increasing (names w) (a.schedule.rising k (wave_of_one 0) l) in
           let too = AllPairs-from_increasing (names x) (b.schedule.rising k (wave_of_one 0) (let n = long in omega arith)) in
           let one = same_entries (λ m n. m < n) (λ m n p q. omega arith) (names w) (names x) up too
@@ -259,7 +257,7 @@ module _ (g : Graph) (sound : IsSound g) where
               → Contains (names w) v → Contains (names x) v
           go_over ws xs a b k w x v e f has =
               let s = same_wave ws xs a b k w v e has in
-              let same : s.0 ≡ x = some_same s.0 x (sym s.1 ∙ f) in
+              let same : s.0 ≡ x = some_same (sym s.1 ∙ f) in
               subst (λ y. Contains (names y) v) same s.2
 
   pub schedule_once : (mode : Mode) (ws xs : List Wave) → HasSchedule g mode ws → HasSchedule g mode xs → ws ≡ xs

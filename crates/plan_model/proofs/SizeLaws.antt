@@ -27,7 +27,7 @@ use Rattle.plan_model.proofs.LatencyLaws.{few_frames_late}
 use Rattle.plan_model.proofs.ShiftLaws.{latency_is_reach}
 use Rattle.plan_model.proofs.UniqueLaws.{values_are_unique}
 use Rattle.plan_model.proofs.ValueLaws.{values_are_listed}
-use Rattle.plan_model.proofs.WaveLaws.{shown}
+use Rattle.graph_model.proofs.LiveLaws.{live_by}
 
 -- ---- delays
 -- no line is longer than the latest destination
@@ -47,7 +47,7 @@ delays_are_small g plan sound c =
     let least = latency_is_reach g plan sound c in
     let few = few_frames_late g sound in
     let late : (d : Connection) → is_live g d.dst.0 ≡ true → positions plan d.dst.0 ≤ 67108864 = λ d is.
-    let last = output_is_last g sound (positions plan) (alignment_of g plan c) d.dst.0 (shown g sound plan.waves d.dst.0 is) in
+    let last = output_is_last g sound (positions plan) (alignment_of g plan c) d.dst.0 (live_by g sound d.dst.0 is) in
     omega arith in
     subst (λ ls. All (λ (l : LineAt). l.delay ≤ 67108864) ls) (sym (c Lines))
     (All-from_recursion (λ l. l.delay ≤ 67108864) (lines_from g (positions plan) 0 g.connections) (delays_below g (positions plan) 67108864 0 g.connections late))
