@@ -1,6 +1,5 @@
 -- A graph with two nodes that lead nowhere: schedules, and the place of a connection among all of them.
-use Rattle.std.proofs.Common.{◌≡◌, ℕ, zero, suc, ◌+◌, ◌<◌, ◌≤◌, ◌==◌, true, false, List, [], ◌∷◌, length, map, pos, get_or, refl, ap, ◌∙◌, subst, arith, Some}
-use Rattle.std.specs.Prelude.{slice_get}
+use Rattle.std.proofs.Common.{◌≡◌, ℕ, zero, suc, ◌<◌, ◌≤◌, ◌==◌, true, false, List, [], ◌∷◌, length, map, pos, get_or, refl, ap, ◌∙◌, subst, arith}
 use Rattle.std.specs.List.{All, Contains, filter, position_or_len}
 use Rattle.std.proofs.lemmas.List.Elements.{All-contains, All-from_recursion}
 use Rattle.std.proofs.lemmas.List.Sorted.{Contains-permutation, IsPermutation-sym}
@@ -16,7 +15,7 @@ use Rattle.graph_model.specs.declared.graph.Graph.{Graph}
 use Rattle.plan_model.specs.Alignments.{IsAfter, position_in}
 use Rattle.plan_model.specs.Places.{IsNo, IsTimely}
 use Rattle.plan_model.specs.Rules.{AreLiveNodes}
-use Rattle.plan_model.specs.Schedules.{IsOneByOne, IsSchedule, names}
+use Rattle.plan_model.specs.Schedules.{IsOneByOne, IsSchedule}
 use Rattle.plan_model.specs.declared.plan.Plan.{Plan}
 use Rattle.plan_model.specs.declared.rule.Rule.TheVariants.{Alignment}
 use Rattle.plan_model.specs.declared.schedule.Wave.{Wave}

@@ -1,20 +1,19 @@
 -- Plans with one altered line, and the number by which a checker refuses each: positions, delays and sums.
-use Rattle.std.proofs.Common.{◌≡◌, ℕ, ◌≤◌, [], ◌∷◌, pos, refl, sym, ap, ◌∙◌, arith}
+use Rattle.std.proofs.Common.{◌≡◌, [], ◌∷◌, pos, refl, sym, ap, ◌∙◌, arith}
 use Rattle.std.specs.Prelude.{sum_by}
 use Rattle.std.specs.List.{All, common_prefix_len}
 use Rattle.std.proofs.lemmas.List.Elements.{All-from_recursion}
 use Rattle.graph_model.specs.Graphs.{input_name, output_name}
-use Rattle.graph_model.specs.Paths.{leads, IsPathTo, live_connections}
-use Rattle.graph_model.proofs.Examples.{fan_out, joined}
+use Rattle.graph_model.specs.Paths.{leads, live_connections}
+use Rattle.graph_model.proofs.Examples.{fan_out}
 use Rattle.plan_model.specs.Alignments.{IsAfter, lines}
 use Rattle.plan_model.specs.Certified.{positions}
-use Rattle.plan_model.specs.Flows.{flow_bound}
 use Rattle.plan_model.specs.Places.{IsNo, same_line}
 use Rattle.plan_model.specs.Rules.{IsPathOut, path_latency}
 use Rattle.plan_model.specs.declared.alignment.LineAt.{LineAt}
 use Rattle.plan_model.specs.declared.plan.Plan.{Plan}
 use Rattle.plan_model.specs.declared.rule.Rule.TheVariants.{Input, Latency, Lines, Longest, Bound}
-use Rattle.plan_model.proofs.Examples.{name, stands, line, flow}
+use Rattle.plan_model.proofs.Examples.{name, stands, line}
 use Rattle.plan_model.proofs.ExamplePlan.{plan, over_gain, live_1, nodes_rule, input_rule, alignment_rule, output_rule, lines_rule, path_rule, longest_rule, arcs_rule, need_rule, bound_rule}
 use Rattle.plan_model.proofs.ExampleRules.{earlier}
 

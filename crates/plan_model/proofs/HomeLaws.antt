@@ -1,9 +1,9 @@
 -- Each value has a buffer, and two values have the same only where they may share it.
-use Rattle.std.proofs.Common.{◌≡◌, ℕ, ◌<◌, ◌⊎◌, List, [], ◌∷◌, length, map, refl, sym, ap, subst, ◌∙◌, arith, inl, inr, cond, ◌==◌, ◌&&◌, Bool, true, false, Option, Some, None, get_or}
-use Rattle.std.specs.List.{All, Contains, find, zip}
+use Rattle.std.proofs.Common.{◌≡◌, ℕ, ◌<◌, ◌⊎◌, List, [], ◌∷◌, map, refl, sym, ap, subst, ◌∙◌, arith, inl, inr, cond, ◌==◌, Bool, true, false, Option, Some, None, get_or}
+use Rattle.std.specs.List.{Contains, find, zip}
 use Rattle.std.specs.Cmp.{first_so, second_so}
 use Rattle.std.proofs.lemmas.Bool.{eqb-true}
-use Rattle.std.proofs.lemmas.List.Elements.{All-contains, Contains-get_or}
+use Rattle.std.proofs.lemmas.List.Elements.{All-contains}
 use Rattle.graph_model.specs.Paths.{live_connections}
 use Rattle.graph_model.proofs.PathLaws.{at_tail, first_or_later, same_name, and_both}
 use Rattle.graph_model.specs.declared.graph.Connection.{Connection}

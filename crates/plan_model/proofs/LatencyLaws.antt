@@ -1,9 +1,9 @@
 -- A sound graph has a latency of at most 2 ^ 26 frames.
-use Rattle.std.proofs.Common.{◌≡◌, ℕ, zero, suc, ◌+◌, ◌*◌, ◌≤◌, ◌==◌, List, [], ◌∷◌, length, map, true, false, cond, refl, sym, ap, subst, arith}
+use Rattle.std.proofs.Common.{◌≡◌, ℕ, zero, suc, ◌*◌, ◌≤◌, ◌==◌, List, [], ◌∷◌, length, true, false, cond, refl, sym, subst, arith}
 use Rattle.std.specs.List.{filter}
 use Rattle.std.proofs.Math.Nat.{mul-le-mul_right}
-use Rattle.graph_model.specs.Graphs.{connections_into, latency_at, output_name}
-use Rattle.graph_model.specs.Paths.{greatest, is_live, latency_of_graph, leads, live_connections, reach_within}
+use Rattle.graph_model.specs.Graphs.{connections_into, output_name}
+use Rattle.graph_model.specs.Paths.{is_live, latency_of_graph, leads, live_connections}
 use Rattle.graph_model.specs.Sound.{IsSound}
 use Rattle.graph_model.proofs.PrintedLaws.{none_before}
 use Rattle.graph_model.specs.declared.graph.Connection.{Connection}

@@ -1,11 +1,9 @@
 -- What the calls of a compiler give makes a certified plan.
-use Rattle.std.proofs.Common.{◌≡◌, ℕ, zero, suc, ◌+◌, List, [], ◌∷◌, length, map, refl, sym, ap, subst, ◌∙◌, arith}
+use Rattle.std.proofs.Common.{◌≡◌, List, [], ◌∷◌, length, map, refl, sym, ap, subst, ◌∙◌}
 use Rattle.std.specs.Prelude.{sum_by}
 use Rattle.std.specs.List.{AllZip}
-use Rattle.std.proofs.lemmas.List.Sums.{sum_by-cons}
-use Rattle.std.proofs.lemmas.List.Elements.{All-contains}
-use Rattle.graph_model.specs.Graphs.{IsRanked, IsNode, latency_at, connections_into, output_name}
-use Rattle.graph_model.specs.Paths.{IsPathTo, IsPrinted, IsPrintedPath, latencies, greatest, reach, reach_within, latency_of_graph, depth}
+use Rattle.graph_model.specs.Graphs.{output_name}
+use Rattle.graph_model.specs.Paths.{IsPathTo, IsPrintedPath, latencies, reach, latency_of_graph, depth}
 use Rattle.graph_model.specs.Sound.{IsSound}
 use Rattle.graph_model.proofs.RankLaws.{sound_is_ranked}
 use Rattle.graph_model.specs.declared.graph.Graph.{Graph}
@@ -14,10 +12,9 @@ use Rattle.plan_model.specs.Flows.{flow_bound}
 use Rattle.plan_model.specs.Schedules.{IsSchedule}
 use Rattle.plan_model.specs.Lives.{Port, AreValues, values, lives_of, life_of, ports_of}
 use Rattle.plan_model.specs.Buffers.{IsAssignment}
-use Rattle.plan_model.specs.Certified.{IsCertified, positions, parts, AreArcs}
+use Rattle.plan_model.specs.Certified.{positions, parts, AreArcs}
 use Rattle.plan_model.specs.Results.{PartsAreCertified}
 use Rattle.plan_model.specs.Rules.{AreLiveNodes, IsPeak, Parts, HoldsBy, AllHold}
-use Rattle.plan_model.specs.declared.plan.Plan.{Plan}
 use Rattle.plan_model.specs.declared.buffers.Life.{Life}
 use Rattle.plan_model.specs.declared.buffers.Home.{Home}
 use Rattle.plan_model.specs.declared.alignment.LineAt.{LineAt}

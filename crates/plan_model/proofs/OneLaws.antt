@@ -1,12 +1,12 @@
 -- All but the flow and the buffers is a function of the graph, and of the mode where there is a schedule.
-use Rattle.std.proofs.Common.{◌≡◌, ℕ, suc, ◌<◌, ◌≤◌, List, [], ◌∷◌, length, map, get_or, refl, sym, ap, subst, ◌∙◌, arith, inl, inr}
+use Rattle.std.proofs.Common.{◌≡◌, ℕ, suc, ◌<◌, List, [], ◌∷◌, length, map, get_or, refl, sym, ap, subst, ◌∙◌, arith, inl, inr}
 use Rattle.std.specs.List.{AllByRecursion}
 use Rattle.std.specs.Prelude.{AllPairs, reverse, sum_by}
 use Rattle.std.proofs.lemmas.Bool.{cases_lt, ne_eqb}
 use Rattle.std.proofs.lemmas.List.Elements.{recursion_from_All}
 use Rattle.std.proofs.lemmas.List.Kept.{AllPairs-from_increasing}
 use Rattle.graph_model.specs.Graphs.{output_name}
-use Rattle.graph_model.specs.Paths.{IsLive, IsPrintedPath}
+use Rattle.graph_model.specs.Paths.{IsPrintedPath}
 use Rattle.graph_model.specs.Sound.{IsSound}
 use Rattle.graph_model.proofs.PathLaws.{same_name}
 use Rattle.graph_model.specs.declared.graph.Uid.{Uid}

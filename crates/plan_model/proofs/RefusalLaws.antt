@@ -1,5 +1,5 @@
 -- There is one answer of a checker that says no: the first rule that fails is one, and its place is.
-use Rattle.std.proofs.Common.{◌≡◌, ℕ, ◌<◌, ◌==◌, List, [], ◌∷◌, length, map, get_or, refl, sym, ap, subst, ◌∙◌, arith, ⊎_elim, inl, inr}
+use Rattle.std.proofs.Common.{◌≡◌, ℕ, ◌<◌, ◌==◌, List, [], ◌∷◌, length, map, get_or, refl, sym, ap, subst, ◌∙◌, arith, inl, inr}
 use Rattle.std.specs.List.{common_prefix_len}
 use Rattle.std.proofs.lemmas.Bool.{cases_lt}
 use Rattle.graph_model.specs.declared.graph.Graph.{Graph}
@@ -7,8 +7,7 @@ use Rattle.plan_model.specs.Alignments.{lines}
 use Rattle.plan_model.specs.Flows.{IsPoint, IsBalanced}
 use Rattle.plan_model.specs.Rules.{number, Parts, IsFirstNot}
 use Rattle.plan_model.specs.Certified.{Holds, parts, positions}
-use Rattle.plan_model.specs.Places.{IsArcAt, IsFirstBad, IsPlaceBy, IsPlace, IsNo, NoIsOne, same_line}
-use Rattle.plan_model.specs.declared.plan.Plan.{Plan}
+use Rattle.plan_model.specs.Places.{IsArcAt, IsFirstBad, IsPlaceBy, IsPlace, NoIsOne, same_line}
 use Rattle.plan_model.specs.declared.rule.Rule.{Rule}
 use Rattle.plan_model.specs.declared.rule.Rule.TheVariants.{At, Input, Alignment, Latency, Lines, Total, Path, Longest, Arcs, Need, Bound, Least, Waves, Homes, Channels, Peak}
 use Rattle.plan_model.proofs.UniqueLaws.{live_nodes_are_unique}
@@ -92,9 +91,11 @@ place_is_one g parts lines arcs need l a n Peak i j x y = x ∙ sym y
 pub no_is_one : NoIsOne
 no_is_one g plan r s i j a b =
     let same : r ≡ s = first_is_one (Holds g plan) r s a.first b.first in
-    let here : IsPlace g plan s i = subst (λ t. IsPlace g plan t i) same a.at in
-    (same, place_is_one g (parts g plan) right_lines right_arcs right_need (λ k m x y. x ∙ sym y) (one_first_bad (IsArcAt g plan.latency plan.arcs))
-    (one_first_bad (λ v. IsPoint g v → IsBalanced g plan.arcs v)) s i j here b.at)
+    let here : IsPlace g plan s i = subst (λ t. IsPlace g plan t i) same a.at in (
+      same,
+      place_is_one g (parts g plan) right_lines right_arcs right_need (λ k m x y. x ∙ sym y) (one_first_bad (IsArcAt g plan.latency plan.arcs))
+          (one_first_bad (λ v. IsPoint g v → IsBalanced g plan.arcs v)) s i j here b.at,
+    )
   where
     right_lines : ℕ → Type 0
     right_lines place = place ≡ common_prefix_len same_line plan.lines (lines g (positions plan))

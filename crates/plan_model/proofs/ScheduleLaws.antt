@@ -1,15 +1,14 @@
 -- One node a wave is a schedule, and there is one schedule of each mode.
-use Rattle.std.proofs.Common.{◌≡◌, ℕ, zero, suc, ◌+◌, ◌<◌, ◌≤◌, List, [], ◌∷◌, length, map, take, get_or, refl, sym, ap, subst, ◌∙◌, arith, inl, inr, cond, Bool, true, false, Some, None}
+use Rattle.std.proofs.Common.{◌≡◌, ℕ, zero, suc, ◌<◌, ◌≤◌, List, [], ◌∷◌, length, map, take, get_or, refl, sym, ap, subst, ◌∙◌, arith, inl, inr, cond, Bool, true, false, Some}
 use Rattle.std.specs.Prelude.{slice_get}
-use Rattle.std.specs.List.{All, Contains, filter, flat_map}
-use Rattle.std.specs.List.Sorted.{IsStrictlyIncreasing}
+use Rattle.std.specs.List.{Contains, filter, flat_map}
 use Rattle.std.proofs.lemmas.Bool.{cases_lt}
 use Rattle.std.proofs.lemmas.List.{ext_get_or, get_or-take, length-take, take_all}
 use Rattle.std.proofs.lemmas.List.Elements.{All-contains, All-from_recursion, Contains-get_or}
 use Rattle.std.proofs.lemmas.Option.{slice_get-get_or}
 use Rattle.std.proofs.lemmas.List.Kept.{AllPairs-from_increasing}
 use Rattle.graph_model.specs.Graphs.{IsNode, output_name}
-use Rattle.graph_model.specs.Orders.{StandsBefore, HasSources, IsNext, IsOrder}
+use Rattle.graph_model.specs.Orders.{StandsBefore, IsNext, IsOrder}
 use Rattle.graph_model.specs.Paths.{IsPathTo, IsLive, is_live, live_connections, IsDepth}
 use Rattle.graph_model.specs.Sound.{IsSound}
 use Rattle.graph_model.proofs.PathLaws.{first_or_later}
@@ -17,7 +16,7 @@ use Rattle.graph_model.proofs.ReachLaws.{filter_has, filter_from}
 use Rattle.graph_model.specs.declared.graph.Uid.{Uid}
 use Rattle.graph_model.specs.declared.graph.Connection.{Connection}
 use Rattle.graph_model.specs.declared.graph.Graph.{Graph}
-use Rattle.plan_model.specs.Places.{IsNextWave, IsWaveAt}
+use Rattle.plan_model.specs.Places.{IsNextWave}
 use Rattle.plan_model.specs.Results.{HasSchedule, ModesAreSchedules}
 use Rattle.plan_model.specs.Schedules.{IsSchedule, IsOneByOne, IsByWaves, OneByOneIsSchedule, names, wave_of}
 use Rattle.plan_model.specs.declared.schedule.Mode.{Mode}
@@ -194,11 +193,13 @@ module _ (g : Graph) (sound : IsSound g) where
       let live = All-contains (IsLive g) (names w) v next.live has in
       let fresh = All-contains (λ u. Contains (flat_map names (take k ws)) u → ⊥) (names w) v next.fresh has in
       let le = not_before ws k w v e has in
-      let there = first_with ws v (stands_in v ws (in_any ws k w v e has)) in
-      (live, elim (cases_lt (wave_of ws v) k) [
-        | inl less ↦ absurd (fresh (in_earlier ws (wave_of ws v) k there.0 v there.1 less there.2))
-        | inr ge ↦ omega arith
-      ])
+      let there = first_with ws v (stands_in v ws (in_any ws k w v e has)) in (
+        live,
+        elim (cases_lt (wave_of ws v) k) [
+          | inl less ↦ absurd (fresh (in_earlier ws (wave_of ws v) k there.0 v there.1 less there.2))
+          | inr ge ↦ omega arith
+        ],
+      )
 
   module _ (ws xs : List Wave) (a : IsByWaves g ws) (b : IsByWaves g xs) where
     -- a node of a wave stands in the other schedule's wave of that index

@@ -1,14 +1,13 @@
 -- How large the numbers of a certified plan can be.
-use Rattle.std.proofs.Common.{◌≡◌, ℕ, suc, ◌+◌, ◌<◌, ◌≤◌, List, [], ◌∷◌, length, map, refl, sym, ap, subst, ◌∙◌, arith, cond, ◌==◌, ◌&&◌, Bool, true, false, count_by}
+use Rattle.std.proofs.Common.{◌≡◌, ℕ, suc, ◌+◌, ◌<◌, ◌≤◌, List, [], ◌∷◌, length, refl, sym, ap, subst, arith, cond, ◌==◌, ◌&&◌, Bool, true, false, count_by}
 use Rattle.std.specs.Prelude.{nat_lt}
-use Rattle.std.specs.List.{All, AllByRecursion, Contains, filter}
+use Rattle.std.specs.List.{All, AllByRecursion, filter}
 use Rattle.std.proofs.lemmas.Bool.Decides.{nat_tests}
 use Rattle.std.proofs.lemmas.List.{length-map}
 use Rattle.std.proofs.lemmas.List.Elements.{All-from_recursion, recursion_from_All}
 use Rattle.graph_model.specs.Answers.{delay}
 use Rattle.graph_model.specs.Graphs.{output_name}
 use Rattle.graph_model.specs.Paths.{is_live, live_connections}
-use Rattle.graph_model.proofs.PathLaws.{at_tail}
 use Rattle.graph_model.specs.declared.graph.Connection.{Connection}
 use Rattle.graph_model.specs.declared.graph.Graph.{Graph}
 use Rattle.plan_model.specs.Alignments.{lines_from}

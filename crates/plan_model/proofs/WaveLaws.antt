@@ -1,7 +1,7 @@
 -- The rule on waves holds where each wave may come after those before it.
 use Rattle.std.proofs.Common.{◌≡◌, ◌≢◌, ℕ, zero, suc, ◌+◌, ◌<◌, ◌≤◌, ◌==◌, ◌||◌, ◌⊎◌, Bool, true, false, cond, not, List, [], ◌∷◌, ◌++◌, length, map, take, drop, get_or, inl, inr, refl, ap, sym, ◌∙◌, subst, arith, Some}
-use Rattle.std.specs.Prelude.{slice_get, AllPairs, IsSome, count_by}
-use Rattle.std.specs.List.{All, Contains, find, flat_map, list_any}
+use Rattle.std.specs.Prelude.{slice_get, AllPairs}
+use Rattle.std.specs.List.{All, Contains, flat_map, list_any}
 use Rattle.std.specs.List.Sorted.{IsStrictlyIncreasing}
 use Rattle.std.proofs.lemmas.Bool.{eqb-true}
 use Rattle.std.proofs.lemmas.Grind.{flat_map-append}
@@ -9,8 +9,7 @@ use Rattle.std.proofs.lemmas.Option.{slice_get-get_or}
 use Rattle.std.proofs.lemmas.List.{take-append-drop}
 use Rattle.std.proofs.lemmas.List.Elements.{All-contains, Contains-append_cases, Contains-append_left, Contains-append_right, Contains-get_or}
 use Rattle.std.proofs.lemmas.List.Sorted.{Contains-permutation, IsPermutation-sym}
-use Rattle.graph_model.specs.Graphs.{IsNode, is_output, name_or_zero, output_name}
-use Rattle.graph_model.specs.Paths.{IsLive, is_live, live_nodes, live_connections, depth}
+use Rattle.graph_model.specs.Paths.{IsLive, is_live, live_nodes, live_connections}
 use Rattle.graph_model.specs.Sound.{IsSound}
 use Rattle.graph_model.specs.declared.graph.Uid.{Uid}
 use Rattle.graph_model.specs.declared.graph.Node.{Node}
@@ -22,9 +21,7 @@ use Rattle.graph_model.proofs.ReachLaws.{filter_has, filter_from}
 use Rattle.plan_model.specs.Schedules.{IsSchedule, names, wave_of}
 use Rattle.plan_model.specs.Places.{IsNextWave, IsWaveAt, WavesByEntries}
 use Rattle.plan_model.specs.declared.schedule.Wave.{Wave}
-use Rattle.plan_model.proofs.Below.{count_by-cons}
 use Rattle.plan_model.proofs.CertifiedLaws.{in_wave, stands_in}
-use Rattle.plan_model.proofs.Counts.{bit}
 use Rattle.plan_model.proofs.Distinct.{Differ, differ_append, differ_parts, differ_permuted, differ_rising, differ_filtered, permutes}
 use Rattle.plan_model.proofs.ExampleTools.{names_of, listed}
 use Rattle.plan_model.proofs.PlaceLaws.{has_item}

@@ -2,7 +2,6 @@
 use Rattle.std.specs.Prelude.{◌≡◌, ℕ, ◌<◌, ◌==◌, ◌&&◌, ◌⊎◌, Bool, List, Option, Some, None}
 use Rattle.std.specs.List.{All, find}
 use Rattle.graph_model.specs.Paths.{live_connections}
-use Rattle.graph_model.specs.declared.graph.Connection.{Connection}
 use Rattle.graph_model.specs.declared.graph.Graph.{Graph}
 use Rattle.plan_model.specs.Lives.{Port, life_of}
 use Rattle.plan_model.specs.Buffers.{MayShare}
