@@ -9,9 +9,9 @@ use Rattle.graph_model.specs.declared.graph.Uid.{Uid}
 use Rattle.graph_model.proofs.Examples.{joined}
 use Rattle.plan_model.specs.Lives.{Port, source, ports_of, AreValues, AreLivesOf, lives_of, IsBefore}
 use Rattle.plan_model.specs.Buffers.{need_of_wave, saved, bearers, IsAssignment, MayShare, AreLives, IsLifeBefore}
-use Rattle.plan_model.specs.Certified.{IsPeak}
-use Rattle.plan_model.specs.declared.plan.Home.{Home}
-use Rattle.plan_model.specs.declared.plan.Life.{Life}
+use Rattle.plan_model.specs.Rules.{IsPeak}
+use Rattle.plan_model.specs.declared.buffers.Home.{Home}
+use Rattle.plan_model.specs.declared.buffers.Life.{Life}
 use Rattle.plan_model.proofs.Examples.{name, home, life, three_gains, gain_values}
 use Rattle.plan_model.proofs.ExampleTools.{pairs}
 use Rattle.plan_model.proofs.ExampleSchedules.{in_turn, by_waves}

@@ -5,7 +5,7 @@ use Rattle.std.proofs.lemmas.List.Elements.{All-from_recursion}
 use Rattle.graph_model.specs.Paths.{leads}
 use Rattle.graph_model.proofs.Examples.{fan_out}
 use Rattle.plan_model.specs.Flows.{IsFlow, IsBalanced, arc_between, flow_bound}
-use Rattle.plan_model.specs.declared.plan.Units.{Units}
+use Rattle.plan_model.specs.declared.flow.Units.{Units}
 use Rattle.plan_model.proofs.Examples.{arc, flow}
 use Rattle.plan_model.proofs.ExampleTools.{at_points}
 use Rattle.plan_model.proofs.ExampleAlignments.{stereo, live_2, live_input}

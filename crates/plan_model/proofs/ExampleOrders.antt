@@ -85,7 +85,7 @@ least_from g os k v lk (w ∷ ns) e =
     go fresh s true true below t e = absurd (fresh (taken-stands os k w t))
     go fresh s true false below t e = absurd (cc)
 
-next_by_test : (g : Graph) (os : List ℕ) (k v : ℕ) → k ≤ length os → IsNode g v → taken os k v ≡ false → sourced g os k v ≡ true → none_below g os k v ≡ true
+pub next_by_test : (g : Graph) (os : List ℕ) (k v : ℕ) → k ≤ length os → IsNode g v → taken os k v ≡ false → sourced g os k v ≡ true → none_below g os k v ≡ true
     → IsNext g os k v
 next_by_test g os k v lk node none ready least = record {
   node = node;

@@ -1,5 +1,5 @@
 -- Plans with one altered line, and the place by which a checker refuses each: lists.
-use Rattle.std.proofs.Common.{◌≡◌, ◌∙◌, ℕ, ◌<◌, ◌==◌, ◌&&◌, true, [], ◌∷◌, take, refl, ap, subst, arith, Some, inl, inr}
+use Rattle.std.proofs.Common.{◌≡◌, ◌∙◌, ℕ, ◌<◌, ◌==◌, ◌&&◌, true, [], ◌∷◌, take, refl, ap, sym, subst, arith, Some, inl, inr}
 use Rattle.std.specs.Prelude.{slice_get, IsSome}
 use Rattle.std.specs.List.{All, Contains, list_any, common_prefix_len}
 use Rattle.std.proofs.lemmas.List.Elements.{All-from_recursion, All-nil}
@@ -11,12 +11,12 @@ use Rattle.graph_model.proofs.Examples.{fan_out}
 use Rattle.graph_model.proofs.PathLaws.{any_at, same_name, and_both}
 use Rattle.plan_model.specs.Flows.{IsBeforeArc, arc_between}
 use Rattle.plan_model.specs.Schedules.{IsSchedule}
-use Rattle.plan_model.specs.Lives.{AreValues, ports_of}
-use Rattle.plan_model.specs.Certified.{AreLiveNodes}
+use Rattle.plan_model.specs.Lives.{AreValues, ports_of, values as graph_values}
+use Rattle.plan_model.specs.Rules.{AreLiveNodes}
 use Rattle.plan_model.specs.Places.{IsNo, IsStep, IsArcAt, IsNextWave, IsWaveAt, same_port}
 use Rattle.plan_model.specs.declared.plan.Plan.{Plan}
-use Rattle.plan_model.specs.declared.plan.Rule.TheVariants.{At, Path, Arcs, Waves, Homes}
-use Rattle.plan_model.specs.declared.plan.Wave.{Wave}
+use Rattle.plan_model.specs.declared.rule.Rule.TheVariants.{At, Path, Arcs, Waves, Homes}
+use Rattle.plan_model.specs.declared.schedule.Wave.{Wave}
 use Rattle.plan_model.proofs.Examples.{name, stands, arc, wave, home}
 use Rattle.plan_model.proofs.ExampleTools.{rising, not_among}
 use Rattle.plan_model.proofs.ExampleRules.{earlier, first_bad}
@@ -34,7 +34,7 @@ three_nodes are = let e = live_nodes_are_unique fan_out _ _ are nodes_rule in ab
 refused_at : IsNo fan_out node_left_out At 3
 refused_at = record {
   first = record { before = λ r l. absurd (omega arith); fails = three_nodes };
-  at = λ vs are. ap (common_prefix_len (λ x y. x == y) (1 ∷ 2 ∷ 3 ∷ [])) (live_nodes_are_unique fan_out _ vs nodes_rule are);
+  at = (1 ∷ 2 ∷ 3 ∷ 4 ∷ [], nodes_rule, refl);
 }
 
 -- a path past the insert: no connection joins the input to the output
@@ -181,6 +181,10 @@ home_left_out = record plan { homes = home 1 0 0 ∷ home 3 0 1 ∷ [] }
 two_values : AreValues fan_out (ports_of home_left_out.homes) → ⊥
 two_values are = let e = values_are_unique fan_out _ _ are homes_rule in absurd (cc)
 
+third_value : common_prefix_len same_port (ports_of home_left_out.homes) (graph_values fan_out) ≡ 2
+unfolding fan_out leads
+third_value = refl
+
 refused_homes : IsNo fan_out home_left_out Homes 2
 refused_homes = record {
   first = record {
@@ -196,5 +200,5 @@ refused_homes = record {
     );
     fails = two_values;
   };
-  at = λ ports are. ap (common_prefix_len same_port (ports_of home_left_out.homes)) (values_are_unique fan_out _ ports homes_rule are);
+  at = sym third_value;
 }

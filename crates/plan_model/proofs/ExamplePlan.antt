@@ -14,14 +14,15 @@ use Rattle.plan_model.specs.Flows.{IsPoint, IsBalanced, arc_between, flow_bound,
 use Rattle.plan_model.specs.Schedules.{IsSchedule, wave_of, names}
 use Rattle.plan_model.specs.Lives.{Port, source, ports_of, AreValues, lives_of, IsBefore}
 use Rattle.plan_model.specs.Buffers.{need_of_wave, saved, bearers, IsAssignment, MayShare}
-use Rattle.plan_model.specs.Certified.{IsCertified, AreLiveNodes, AreArcs, IsPeak, IsPathOut, path_latency, positions}
+use Rattle.plan_model.specs.Rules.{AreLiveNodes, IsPeak, IsPathOut, path_latency}
+use Rattle.plan_model.specs.Certified.{IsCertified, AreArcs, positions}
 use Rattle.plan_model.specs.Optimal.{IsOptimal}
 use Rattle.plan_model.proofs.CertifiedLaws.{certified_is_optimal}
 use Rattle.graph_model.proofs.ExampleSound.{sound}
 use Rattle.plan_model.specs.declared.plan.Plan.{Plan}
-use Rattle.plan_model.specs.declared.plan.Rule.TheVariants.{At, Input, Alignment, Latency, Lines, Total, Path, Longest, Arcs, Need, Bound, Least, Waves, Homes, Channels, Peak}
-use Rattle.plan_model.specs.declared.plan.Home.{Home}
-use Rattle.plan_model.specs.declared.plan.Life.{Life}
+use Rattle.plan_model.specs.declared.rule.Rule.TheVariants.{At, Input, Alignment, Latency, Lines, Total, Path, Longest, Arcs, Need, Bound, Least, Waves, Homes, Channels, Peak}
+use Rattle.plan_model.specs.declared.buffers.Home.{Home}
+use Rattle.plan_model.specs.declared.buffers.Life.{Life}
 use Rattle.plan_model.proofs.ExampleTools.{pairs, rising, at_points, all_nodes}
 use Rattle.plan_model.proofs.Examples.{name, stands, line, life, flow, one_by_one, homes}
 
@@ -44,7 +45,7 @@ over_insert : IsPathTo fan_out 2 (3 ∷ 1 ∷ [])
 unfolding fan_out
 over_insert = (refl, (joined 3 0 2 0, (1, omega arith, refl), refl, refl), (refl, (joined 1 0 3 0, (0, omega arith, refl), refl, refl), refl))
 
-over_gain : IsPathTo fan_out 2 (4 ∷ 1 ∷ [])
+pub over_gain : IsPathTo fan_out 2 (4 ∷ 1 ∷ [])
 unfolding fan_out
 over_gain = (refl, (joined 4 0 2 0, (3, omega arith, refl), refl, refl), (refl, (joined 1 0 4 0, (2, omega arith, refl), refl, refl), refl))
 

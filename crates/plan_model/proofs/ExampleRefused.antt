@@ -10,13 +10,14 @@ use Rattle.plan_model.specs.Alignments.{IsAfter, lines}
 use Rattle.plan_model.specs.Flows.{IsPoint, IsBalanced, arc_between, IsBeforeArc}
 use Rattle.plan_model.specs.Lives.{lives_of, ports_of}
 use Rattle.plan_model.specs.Buffers.{MayShare, IsAssignment, need_of_wave, saved, bearers}
-use Rattle.plan_model.specs.Certified.{AreArcs, IsPeak, positions}
+use Rattle.plan_model.specs.Rules.{IsPeak}
+use Rattle.plan_model.specs.Certified.{AreArcs, positions}
 use Rattle.plan_model.specs.Places.{IsFirstBad, IsHomeAt, IsNo}
 use Rattle.plan_model.specs.declared.plan.Plan.{Plan}
-use Rattle.plan_model.specs.declared.plan.Rule.TheVariants.{Channels, Need, Least, Total, Peak}
+use Rattle.plan_model.specs.declared.rule.Rule.TheVariants.{Channels, Need, Least, Total, Peak}
 use Rattle.plan_model.proofs.Examples.{name, stands, line, arc, home, life, homes, one_by_one}
 use Rattle.plan_model.proofs.ExampleTools.{pairs}
-use Rattle.plan_model.specs.declared.plan.Home.{Home}
+use Rattle.plan_model.specs.declared.buffers.Home.{Home}
 use Rattle.plan_model.proofs.ExampleBuffers.{overlap}
 use Rattle.plan_model.proofs.ExampleRules.{earlier, first_bad}
 use Rattle.plan_model.proofs.ExamplePlan.{plan, values, lives_are, apart_rule, live_1, nodes_rule, input_rule, alignment_rule, output_rule, lines_rule, path_rule, longest_rule, arcs_rule, need_rule, bound_rule, schedule_rule, homes_rule}

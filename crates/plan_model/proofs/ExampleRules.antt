@@ -1,46 +1,27 @@
--- What the examples of certified and of refused plans share: the rules as a list, and the first bad place.
-use Rattle.std.proofs.Common.{◌≡◌, ℕ, zero, suc, ◌<◌, List, [], ◌∷◌, length, get_or, take, refl, sym, ◌∙◌, subst, arith, ⊎_elim}
+-- What the examples of certified and of refused plans share: the rules before one, and the first bad place.
+use Rattle.std.proofs.Common.{ℕ, zero, suc, ◌<◌, take, sym, ◌∙◌, subst, arith, ⊎_elim}
 use Rattle.std.specs.List.{AllByRecursion}
 use Rattle.std.proofs.lemmas.Bool.{cases_eq}
 use Rattle.std.proofs.lemmas.List.{get_or-take, length-take}
 use Rattle.std.proofs.lemmas.List.Elements.{All-from_recursion}
 use Rattle.graph_model.specs.declared.graph.Graph.{Graph}
-use Rattle.plan_model.specs.Certified.{Holds, number}
+use Rattle.plan_model.specs.Rules.{number}
+use Rattle.plan_model.specs.Certified.{Holds}
 use Rattle.plan_model.specs.Places.{IsFirstBad}
 use Rattle.plan_model.specs.declared.plan.Plan.{Plan}
-use Rattle.plan_model.specs.declared.plan.Rule.{Rule}
-use Rattle.plan_model.specs.declared.plan.Rule.TheVariants.{At, Input, Alignment, Latency, Lines, Total, Path, Longest, Arcs, Need, Bound, Least, Waves, Homes, Channels, Peak}
-
-abbrev pub rules : List Rule
-rules = At ∷ Input ∷ Alignment ∷ Latency ∷ Lines ∷ Total ∷ Path ∷ Longest ∷ Arcs ∷ Need ∷ Bound ∷ Least ∷ Waves ∷ Homes ∷ Channels ∷ Peak ∷ []
-
-abbrev IsAtNumber : Rule → Type 0
-IsAtNumber r = (number r < length rules) × (get_or rules (number r) r ≡ r)
-
-at_number : (r : Rule) → IsAtNumber r
-at_number At = (omega arith, refl)
-at_number Input = (omega arith, refl)
-at_number Alignment = (omega arith, refl)
-at_number Latency = (omega arith, refl)
-at_number Lines = (omega arith, refl)
-at_number Total = (omega arith, refl)
-at_number Path = (omega arith, refl)
-at_number Longest = (omega arith, refl)
-at_number Arcs = (omega arith, refl)
-at_number Need = (omega arith, refl)
-at_number Bound = (omega arith, refl)
-at_number Least = (omega arith, refl)
-at_number Waves = (omega arith, refl)
-at_number Homes = (omega arith, refl)
-at_number Channels = (omega arith, refl)
-at_number Peak = (omega arith, refl)
+use Rattle.plan_model.specs.declared.rule.Rule.{Rule}
+use Rattle.plan_model.specs.declared.rule.Rule.TheVariants.{At}
+use Rattle.plan_model.proofs.RefusalLaws.{rules, at_number}
 
 -- the proofs of the rules before one, in their order
-pub earlier : (g : Graph) (plan : Plan) (rule : Rule) → AllByRecursion (Holds g plan) (take (number rule) rules) → (r : Rule) → number r < number rule → Holds g plan r
-earlier g plan rule h r l =
+pub earlier_by : (H : Rule → Type 0) (rule : Rule) → AllByRecursion H (take (number rule) rules) → (r : Rule) → number r < number rule → H r
+earlier_by H rule h r l =
     let within = (at_number r).0 in
-    subst (Holds g plan) (get_or-take (number rule) rules (number r) r l ∙ (at_number r).1)
-    (All-from_recursion (Holds g plan) (take (number rule) rules) h (number r) r (omega (arith, length-take (number rule) rules, (at_number rule).0)))
+    subst H (get_or-take (number rule) rules (number r) At l ∙ (at_number r).1)
+    (All-from_recursion H (take (number rule) rules) h (number r) At (omega (arith, length-take (number rule) rules, (at_number rule).0)))
+
+pub earlier : (g : Graph) (plan : Plan) (rule : Rule) → AllByRecursion (Holds g plan) (take (number rule) rules) → (r : Rule) → number r < number rule → Holds g plan r
+earlier g plan rule h = earlier_by (Holds g plan) rule h
 
 abbrev pub AllBelow : (ℕ → Type 0) → ℕ → Type 0
 AllBelow P zero = Unit {0}

@@ -8,7 +8,7 @@ use Rattle.graph_model.specs.Graphs.{IsJoined}
 use Rattle.graph_model.specs.Paths.{leads, live_nodes, live_connections, IsLive, IsDepth, IsPathTo}
 use Rattle.graph_model.proofs.Examples.{joined}
 use Rattle.plan_model.specs.Schedules.{IsSchedule, IsByWaves, names, wave_of}
-use Rattle.plan_model.specs.declared.plan.Wave.{Wave}
+use Rattle.plan_model.specs.declared.schedule.Wave.{Wave}
 use Rattle.plan_model.proofs.Examples.{wave, three_gains}
 use Rattle.plan_model.proofs.ExampleTools.{rising, names_of, listed, no_longer, not_among}
 

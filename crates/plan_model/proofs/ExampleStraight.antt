@@ -15,10 +15,11 @@ use Rattle.plan_model.specs.Flows.{IsPoint, IsBalanced, arc_between, IsBeforeArc
 use Rattle.plan_model.specs.Schedules.{IsSchedule, wave_of, names}
 use Rattle.plan_model.specs.Lives.{source, ports_of, AreValues, lives_of, IsBefore}
 use Rattle.plan_model.specs.Buffers.{need_of_wave, saved, bearers, IsAssignment, MayShare}
-use Rattle.plan_model.specs.Certified.{IsCertified, AreLiveNodes, AreArcs, IsPeak, positions}
-use Rattle.plan_model.specs.declared.plan.Life.{Life}
+use Rattle.plan_model.specs.Rules.{AreLiveNodes, IsPeak}
+use Rattle.plan_model.specs.Certified.{IsCertified, AreArcs, positions}
+use Rattle.plan_model.specs.declared.buffers.Life.{Life}
 use Rattle.plan_model.specs.declared.plan.Plan.{Plan}
-use Rattle.plan_model.specs.declared.plan.Rule.TheVariants.{At, Input, Alignment, Latency, Lines, Total, Path, Longest, Arcs, Need, Bound, Least, Waves, Homes, Channels, Peak}
+use Rattle.plan_model.specs.declared.rule.Rule.TheVariants.{At, Input, Alignment, Latency, Lines, Total, Path, Longest, Arcs, Need, Bound, Least, Waves, Homes, Channels, Peak}
 use Rattle.plan_model.proofs.Examples.{name, stands, line, arc, wave, home, life}
 use Rattle.plan_model.proofs.ExampleTools.{pairs, rising, at_points, all_nodes, not_among}
 

@@ -1,10 +1,11 @@
 -- A sound graph has a latency of at most 2 ^ 26 frames.
-use Rattle.std.proofs.Common.{◌≡◌, ℕ, zero, suc, ◌+◌, ◌*◌, ◌≤◌, ◌==◌, List, [], ◌∷◌, length, map, true, false, cond, refl, sym, ap, subst, arith}
+use Rattle.std.proofs.Common.{◌≡◌, ℕ, zero, suc, ◌*◌, ◌≤◌, ◌==◌, List, [], ◌∷◌, length, true, false, cond, refl, sym, subst, arith}
 use Rattle.std.specs.List.{filter}
 use Rattle.std.proofs.Math.Nat.{mul-le-mul_right}
-use Rattle.graph_model.specs.Graphs.{connections_into, latency_at, output_name}
-use Rattle.graph_model.specs.Paths.{greatest, is_live, latency_of_graph, leads, live_connections, reach_within}
+use Rattle.graph_model.specs.Graphs.{connections_into, output_name}
+use Rattle.graph_model.specs.Paths.{is_live, latency_of_graph, leads, live_connections}
 use Rattle.graph_model.specs.Sound.{IsSound}
+use Rattle.graph_model.proofs.PrintedLaws.{none_before}
 use Rattle.graph_model.specs.declared.graph.Connection.{Connection}
 use Rattle.graph_model.specs.declared.graph.Graph.{Graph}
 
@@ -13,12 +14,6 @@ leads_there : (g : Graph) (v : ℕ) → (v == output_name g) ≡ true → (k : �
 unfolding leads
 leads_there g v e zero = e
 leads_there g v e (suc k) = rw e refl
-
--- without a connection into it nothing is before a node
-none_before : (g : Graph) (v : ℕ) → connections_into g v ≡ [] → (k : ℕ) → reach_within g k v ≡ 0
-unfolding reach_within
-none_before g v none zero = refl
-none_before g v none (suc k) = ap (λ cs. greatest (map (λ c. reach_within g k c.src.0 + latency_at g c.src.0) cs)) none
 
 -- where a connection leads into the output node, some connection is live
 some_live : (g : Graph) (cs : List Connection) → 1 ≤ length (filter (λ c. c.dst.0 == output_name g) cs) → 1 ≤ length (filter (λ c. is_live g c.dst.0) cs)

@@ -1,32 +1,30 @@
 -- The rule on waves holds where each wave may come after those before it.
 use Rattle.std.proofs.Common.{◌≡◌, ◌≢◌, ℕ, zero, suc, ◌+◌, ◌<◌, ◌≤◌, ◌==◌, ◌||◌, ◌⊎◌, Bool, true, false, cond, not, List, [], ◌∷◌, ◌++◌, length, map, take, drop, get_or, inl, inr, refl, ap, sym, ◌∙◌, subst, arith, Some}
-use Rattle.std.specs.Prelude.{slice_get, AllPairs, IsSome, count_by}
-use Rattle.std.specs.List.{All, Contains, find, flat_map, list_any}
+use Rattle.std.specs.Prelude.{slice_get, AllPairs}
+use Rattle.std.specs.List.{All, Contains, flat_map, list_any}
 use Rattle.std.specs.List.Sorted.{IsStrictlyIncreasing}
 use Rattle.std.proofs.lemmas.Bool.{eqb-true}
 use Rattle.std.proofs.lemmas.Grind.{flat_map-append}
+use Rattle.std.proofs.lemmas.Option.{slice_get-get_or}
 use Rattle.std.proofs.lemmas.List.{take-append-drop}
 use Rattle.std.proofs.lemmas.List.Elements.{All-contains, Contains-append_cases, Contains-append_left, Contains-append_right, Contains-get_or}
 use Rattle.std.proofs.lemmas.List.Sorted.{Contains-permutation, IsPermutation-sym}
-use Rattle.graph_model.specs.Graphs.{IsNode, is_output, name_or_zero, output_name}
-use Rattle.graph_model.specs.Paths.{IsLive, is_live, live_nodes, live_connections, depth}
+use Rattle.graph_model.specs.Paths.{IsLive, is_live, live_nodes, live_connections}
 use Rattle.graph_model.specs.Sound.{IsSound}
 use Rattle.graph_model.specs.declared.graph.Uid.{Uid}
 use Rattle.graph_model.specs.declared.graph.Node.{Node}
 use Rattle.graph_model.specs.declared.graph.Connection.{Connection}
 use Rattle.graph_model.specs.declared.graph.Graph.{Graph}
-use Rattle.graph_model.proofs.PathLaws.{at_tail, first_or_later, same_name, live_by_test, live_by_paths}
-use Rattle.graph_model.proofs.RankLaws.{sound_is_ranked}
+use Rattle.graph_model.proofs.PathLaws.{at_tail, first_or_later}
+use Rattle.graph_model.proofs.LiveLaws.{live_by, live_test}
 use Rattle.graph_model.proofs.ReachLaws.{filter_has, filter_from}
 use Rattle.plan_model.specs.Schedules.{IsSchedule, names, wave_of}
 use Rattle.plan_model.specs.Places.{IsNextWave, IsWaveAt, WavesByEntries}
-use Rattle.plan_model.specs.declared.plan.Wave.{Wave}
-use Rattle.plan_model.proofs.Below.{count_by-cons}
+use Rattle.plan_model.specs.declared.schedule.Wave.{Wave}
 use Rattle.plan_model.proofs.CertifiedLaws.{in_wave, stands_in}
-use Rattle.plan_model.proofs.Counts.{bit}
 use Rattle.plan_model.proofs.Distinct.{Differ, differ_append, differ_parts, differ_permuted, differ_rising, differ_filtered, permutes}
 use Rattle.plan_model.proofs.ExampleTools.{names_of, listed}
-use Rattle.plan_model.proofs.PlaceLaws.{item, has_item}
+use Rattle.plan_model.proofs.PlaceLaws.{has_item}
 
 -- ---- which wave has a node
 wave_with : (ws : List Wave) (v : ℕ) → Contains (flat_map names ws) v → (k : ℕ) × (w : Wave) × (slice_get ws k ≡ Some w) × Contains (names w) v
@@ -38,7 +36,7 @@ wave_with (w ∷ ws) v has =
     ]
 
 -- the waves before place k have the nodes of each of them, the waves from it on those of it
-in_earlier : (ws : List Wave) (j k : ℕ) (w : Wave) (v : ℕ) → slice_get ws j ≡ Some w → j < k → Contains (names w) v → Contains (flat_map names (take k ws)) v
+pub in_earlier : (ws : List Wave) (j k : ℕ) (w : Wave) (v : ℕ) → slice_get ws j ≡ Some w → j < k → Contains (names w) v → Contains (flat_map names (take k ws)) v
 in_earlier [] j k w v e l has = absurd (cc)
 in_earlier (x ∷ ws) j zero w v e l has = absurd (omega arith)
 in_earlier (x ∷ ws) zero (suc k) w v e l has = let same : w ≡ x = cc in Contains-append_left (names x) (flat_map names (take k ws)) v (subst (λ y. Contains (names y) v) same has)
@@ -49,7 +47,7 @@ in_later [] k w v e has = absurd (cc)
 in_later (x ∷ ws) zero w v e has = let same : w ≡ x = cc in Contains-append_left (names x) (flat_map names ws) v (subst (λ y. Contains (names y) v) same has)
 in_later (x ∷ ws) (suc k) w v e has = in_later ws k w v e has
 
-in_any : (ws : List Wave) (k : ℕ) (w : Wave) (v : ℕ) → slice_get ws k ≡ Some w → Contains (names w) v → Contains (flat_map names ws) v
+pub in_any : (ws : List Wave) (k : ℕ) (w : Wave) (v : ℕ) → slice_get ws k ≡ Some w → Contains (names w) v → Contains (flat_map names ws) v
 in_any [] k w v e has = absurd (cc)
 in_any (x ∷ ws) zero w v e has = let same : w ≡ x = cc in Contains-append_left (names x) (flat_map names ws) v (subst (λ y. Contains (names y) v) same has)
 in_any (x ∷ ws) (suc k) w v e has = Contains-append_right (names x) (flat_map names ws) v (in_any ws k w v e has)
@@ -65,7 +63,7 @@ from_wave v (u ∷ us) e = go (u.0 == v) refl e (from_wave v us)
     go false t e rest = at_tail u.0 v (map (λ w. w.0) us) (rest e)
 
 -- a wave that has the node is not before the first that has it, and the first has it
-not_before : (ws : List Wave) (k : ℕ) (w : Wave) (v : ℕ) → slice_get ws k ≡ Some w → Contains (names w) v → wave_of ws v ≤ k
+pub not_before : (ws : List Wave) (k : ℕ) (w : Wave) (v : ℕ) → slice_get ws k ≡ Some w → Contains (names w) v → wave_of ws v ≤ k
 not_before [] k w v e has = absurd (cc)
 not_before (x ∷ ws) zero w v e has =
     let same : w ≡ x = cc in
@@ -81,7 +79,7 @@ not_before (x ∷ ws) (suc k) w v e has = later (list_any (λ u. u.0 == v) x.nod
     later true l = omega arith
     later false l = omega arith
 
-first_with : (ws : List Wave) (v : ℕ) → wave_of ws v < length ws → (w : Wave) × (slice_get ws (wave_of ws v) ≡ Some w) × Contains (names w) v
+pub first_with : (ws : List Wave) (v : ℕ) → wave_of ws v < length ws → (w : Wave) × (slice_get ws (wave_of ws v) ≡ Some w) × Contains (names w) v
 first_with [] v l = absurd (omega arith)
 first_with (x ∷ ws) v l = go (list_any (λ u. u.0 == v) x.nodes) refl l (first_with ws v)
   where
@@ -137,46 +135,22 @@ names_differ (n ∷ ns) h = (first, names_differ ns (λ i j d lt l. h (suc i) (s
         let same : n.uid ≡ r.0.uid = ap named (sym r.2) in
         All-contains (λ m. n.uid ≢ m.uid) ns r.0 others r.1 same
 
-output_in : (ns : List Node) → count_by (λ n. is_output n.kind) ns ≡ 1 → IsSome (find (λ n. n.uid.0 == name_or_zero (find (λ m. is_output m.kind) ns)) ns)
-output_in [] e = absurd (omega (arith, e))
-output_in (n ∷ ns) e = go (is_output n.kind) refl e (output_in ns)
-  where
-    here_too : (m : ℕ) (b : Bool) → IsSome (find (λ k. k.uid.0 == m) ns) → IsSome (cond b (Some n) (find (λ k. k.uid.0 == m) ns))
-    here_too m true s = refl
-    here_too m false s = s
-
-    go : (b : Bool) → is_output n.kind ≡ b → count_by (λ m. is_output m.kind) (n ∷ ns) ≡ 1
-        → (count_by (λ m. is_output m.kind) ns ≡ 1 → IsSome (find (λ m. m.uid.0 == name_or_zero (find (λ m. is_output m.kind) ns)) ns))
-        → IsSome (find (λ m. m.uid.0 == name_or_zero (cond b (Some n) (find (λ m. is_output m.kind) ns))) (n ∷ ns))
-    go true t e rest = let same : (n.uid.0 == n.uid.0) ≡ true = same_name n.uid.0 in rw same refl
-    go false t e rest =
-        here_too (name_or_zero (find (λ m. is_output m.kind) ns)) (n.uid.0 == name_or_zero (find (λ m. is_output m.kind) ns)) (rest (omega (arith, e, count_by-cons (λ (m : Node). is_output m.kind) n ns, ap bit t)))
-
 -- what holds of each entry
-each_entry : {X : Type 0} (P : X → Type 0) (xs : List X) → ((x : X) → Contains xs x → P x) → All P xs
+pub each_entry : {X : Type 0} (P : X → Type 0) (xs : List X) → ((x : X) → Contains xs x → P x) → All P xs
 each_entry P xs h = λ k d l. h (get_or xs k d) (Contains-get_or xs k d l)
 
 module _ (g : Graph) (sound : IsSound g) (waves : List Wave) where
-  output_exists : IsNode g (output_name g)
-  output_exists = output_in g.nodes sound.shaped.ends.1
-
-  pub tested : (v : ℕ) → IsLive g v → is_live g v ≡ true
-  tested v live = live_by_test g (depth g) (sound_is_ranked g sound) v live
-
-  pub shown : (v : ℕ) → is_live g v ≡ true → IsLive g v
-  shown v is = live_by_paths g (depth g) (sound_is_ranked g sound) output_exists v is
-
   pub kept : (v : ℕ) → IsLive g v → Contains (live_nodes g) v
-  kept v live = filter_has (is_live g) (names_of g) v (listed g v live) (tested v live)
+  kept v live = filter_has (is_live g) (names_of g) v (listed g v live) (live_test g sound v live)
 
   pub live_differ : Differ (live_nodes g)
   live_differ = differ_filtered (is_live g) (names_of g) (names_differ g.nodes sound.shaped.uids_differ)
 
   to_schedule : ((k : ℕ) → IsWaveAt g waves k) → IsSchedule g waves
   to_schedule h = record {
-    filled = λ k d l. (next k (get_or waves k d) (item waves k d l)).filled;
-    rising = λ k d l. (next k (get_or waves k d) (item waves k d l)).rising;
-    once = permutes (live_nodes g) (flat_map names waves) live_differ all_differ (λ v has. everywhere v (shown v (filter_from (is_live g) (names_of g) v has).1)) only_live;
+    filled = λ k d l. (next k (get_or waves k d) (slice_get-get_or waves k d l)).filled;
+    rising = λ k d l. (next k (get_or waves k d) (slice_get-get_or waves k d l)).rising;
+    once = permutes (live_nodes g) (flat_map names waves) live_differ all_differ (λ v has. everywhere v (live_by g sound v (filter_from (is_live g) (names_of g) v has).1)) only_live;
     later = each_entry (λ c. wave_of waves c.src.0 < wave_of waves c.dst.0) (live_connections g) goes_on;
   }
     where
@@ -196,7 +170,7 @@ module _ (g : Graph) (sound : IsSound g) (waves : List Wave) where
 
       goes_on : (c : Connection) → Contains (live_connections g) c → wave_of waves c.src.0 < wave_of waves c.dst.0
       goes_on c has =
-          let live = shown c.dst.0 (filter_from (λ d. is_live g d.dst.0) g.connections c has).1 in
+          let live = live_by g sound c.dst.0 (filter_from (λ d. is_live g d.dst.0) g.connections c has).1 in
           let f = first_with waves c.dst.0 (stands_in c.dst.0 waves (everywhere c.dst.0 live)) in
           let k = wave_of waves c.dst.0 in
           earlier_wave waves k c.src.0
@@ -207,7 +181,7 @@ module _ (g : Graph) (sound : IsSound g) (waves : List Wave) where
     next = λ w e. record {
       filled = All-contains (λ x. 0 < length x.nodes) waves w s.filled (has_item waves k w e);
       rising = All-contains (λ x. IsStrictlyIncreasing (names x)) waves w s.rising (has_item waves k w e);
-      live = each_entry (IsLive g) (names w) (λ v has. shown v (filter_from (is_live g) (names_of g) v (back v (in_any waves k w v e has))).1);
+      live = each_entry (IsLive g) (names w) (λ v has. live_by g sound v (filter_from (is_live g) (names_of g) v (back v (in_any waves k w v e has))).1);
       fresh = each_entry (λ v. Contains (flat_map names (take k waves)) v → ⊥) (names w)
           (λ v has before. differ_parts (flat_map names (take k waves)) (flat_map names (drop k waves)) parts v before (in_later waves k w v e has));
       ready = each_entry (λ c. Contains (names w) c.dst.0 → Contains (flat_map names (take k waves)) c.src.0) (live_connections g) (λ c has reads. comes_before c has w e reads);

@@ -1,11 +1,15 @@
 pub mod Pairs
+pub mod Networks
 pub mod Alignments
 pub mod Flows
 pub mod Schedules
 pub mod Lives
 pub mod Buffers
+pub mod Rules
 pub mod Certified
 pub mod Places
 pub mod Duality
+pub mod Homes
+pub mod Sizes
 pub mod Optimal
 pub mod Results
