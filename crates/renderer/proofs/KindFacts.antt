@@ -15,7 +15,7 @@ use Rattle.graph_model.specs.declared.kind.Kind.{Kind}
 use Rattle.graph_model.specs.declared.kind.Kind.TheVariants.{Input, Output, Gain, Mixer, Fir, Biquad, Limiter, Delay, Insert}
 use Rattle.graph_model.specs.declared.graph.Node.{Node}
 use Rattle.graph_model.specs.declared.graph.Bound.{Bound}
-use Rattle.fixed_kernels.specs.Kernels.{IsBoundOf}
+use Rattle.graph_model.specs.Kernels.{IsBoundOf}
 use Rattle.processors.specs.Types.{IsBetweenEnds}
 use Rattle.graph_model.specs.Named.{uid_at}
 use Rattle.graph_model.proofs.NameFacts.{any_node}

@@ -16,7 +16,8 @@ use Rattle.plan_model.proofs.DualityLaws.{output_is_node}
 use Rattle.graph_model.specs.Named.{uid_at}
 use Rattle.graph_model.proofs.NameFacts.{any_node, index_of}
 use Rattle.renderer.specs.Positions.{position_at, AreAligned}
-use Rattle.graph_model.proofs.NodeFacts.{first_place, at_input, input_reach}
+use Rattle.graph_model.proofs.NameFacts.{first_place}
+use Rattle.graph_model.proofs.NodeFacts.{named, at_input, input_reach}
 
 -- the first k nodes have the positions p
 pub record AreListed (g : Graph) (p : ℕ → ℕ) (k : ℕ) (ps : List ℕ) : Type 0 where
@@ -38,7 +39,7 @@ listed_more g p k ps new x listed is e = subst (AreListed g p (k + 1)) (sym e) (
 module _ (g : Graph) (sound : IsSound g) where
   -- the position of the node at an index
   pub position_is : (ps : List ℕ) (i : ℕ) → i < length g.nodes → position_at g ps (uid_at g i) ≡ get_or ps i 0
-  position_is ps i lt = ap (λ k. get_or ps k 0) (first_place g sound i any_node lt)
+  position_is ps i lt = ap (λ k. get_or ps k 0) (first_place g (named g sound) i any_node lt)
 
   -- the positions of all nodes, in the order of the list
   module _ (p : ℕ → ℕ) (ps : List ℕ) (listed : AreListed g p (length g.nodes) ps) where

@@ -2,7 +2,7 @@
 use Rattle.std.specs.Prelude.{◌≡◌, ℕ, true, List, [], ◌*◌, ◌^◌, ◌<◌, length, get_or, ℤ}
 use Rattle.std.specs.List.{All}
 use Rattle.graph_model.specs.Answers.{incoming, outgoing}
-use Rattle.graph_model.specs.Graphs.{input_name, outs_at}
+use Rattle.graph_model.specs.Graphs.{in_channels}
 use Rattle.graph_model.specs.Histories.{History, frames_of, interleaved}
 use Rattle.graph_model.specs.Paths.{is_live}
 use Rattle.graph_model.specs.Sound.{IsSound}
@@ -14,7 +14,7 @@ use Rattle.renderer.specs.declared.evaluation.Evaluation.{Evaluation}
 
 -- the history of the input
 abbrev pub input_of : Evaluation → History
-input_of e = frames_of (outs_at e.graph.now (input_name e.graph.now)) e.input.now
+input_of e = frames_of (in_channels e.graph.now) e.input.now
 
 -- where the nodes stand
 abbrev pub positions_of : Evaluation → ℕ → ℕ
@@ -31,7 +31,7 @@ incoming_at e i = interleaved (incoming e.graph.now (positions_of e) (input_of e
 pub record IsEvaluation (e : Evaluation) : Type 0 where
   pub sound : IsSound e.graph.now
   pub routes : AreRoutes e.graph.now (positions_of e) e.routes.items
-  pub whole : length e.input.now ≡ e.frames * outs_at e.graph.now (input_name e.graph.now)
+  pub whole : length e.input.now ≡ e.frames * in_channels e.graph.now
   pub small : AreUpTo (2 ^ 31) e.input.now
 
 -- the streams have what goes out of node i

@@ -1,14 +1,13 @@
 //! The streams of a graph's live nodes, in the order of the nodes.
 
 ghost use Rattle.std.specs.Prelude.{◌≡◌, ◌*◌, ◌%◌, ◌^◌, ◌<◌, IfOk, length, pos, replicate, true};
-ghost use Rattle.graph_model.specs.Graphs.{input_name, outs_at};
+ghost use Rattle.graph_model.specs.Graphs.{in_channels};
 ghost use Rattle.graph_model.specs.Paths.{is_live};
 ghost use Rattle.plan_model.specs.Alignments.{IsAlignment};
 ghost use Rattle.graph_model.specs.Named.{uid_at};
 ghost use Rattle.renderer.specs.Positions.{position_at};
 ghost use Rattle.graph_model.specs.Bounds.{AreUpTo};
 
-use crate::lookup::input_channels;
 use crate::routes::{Route, routes};
 use crate::streams::outgoing;
 use connections::Checked;
@@ -49,7 +48,7 @@ impl<'a> Evaluation<'a> {
     ) -> Result<Self, AllocError>
         requires count { length positions.now ≡ length graph.now.nodes }
         requires alignment { IsAlignment graph.now (position_at graph.now positions.now) }
-        requires whole { length input.now % outs_at graph.now (input_name graph.now) ≡ 0 }
+        requires whole { length input.now % in_channels graph.now ≡ 0 }
         requires small { AreUpTo (2 ^ 31) input.now }
         ensures state { IfOk result IsEvaluation }
         ensures graph { IfOk result (λ e. e.graph.now ≡ graph.now) }
@@ -61,7 +60,7 @@ impl<'a> Evaluation<'a> {
             positions,
             routes: routes(alloc, graph, positions)?,
             input,
-            frames: input.len() / input_channels(graph.graph()),
+            frames: input.len() / graph.input_channels() as usize,
         })
     }
 

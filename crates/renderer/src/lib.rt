@@ -15,19 +15,18 @@
 //! the streams of the kinds.
 #![tactic(auto)]
 
-ghost use Rattle.std.specs.Prelude.{◌≡◌, ◌-◌, ◌%◌, ◌^◌, ◌<◌, ◌≤◌, IfOk, length, map};
+ghost use Rattle.std.specs.Prelude.{◌≡◌, ◌-◌, ◌%◌, ◌^◌, ◌≤◌, IfOk, length, map};
 ghost use Rattle.graph_model.specs.Answers.{answer};
-ghost use Rattle.graph_model.specs.Graphs.{input_name, ins_at, output_name, outs_at};
+ghost use Rattle.graph_model.specs.Bounds.{AreUpTo};
+ghost use Rattle.graph_model.specs.Graphs.{in_channels, out_channels, output_name};
 ghost use Rattle.graph_model.specs.Histories.{frames_of, interleaved, shifted};
 ghost use Rattle.graph_model.specs.Paths.{latency_of_graph};
 ghost use Rattle.plan_model.specs.Alignments.{IsAlignment, position_in};
 ghost use Rattle.plan_model.specs.Certified.{AreLiveNodes};
 ghost use Rattle.renderer.specs.Positions.{position_at};
-ghost use Rattle.graph_model.specs.Bounds.{AreUpTo};
 
 mod evaluation;
 pub mod laws;
-mod lookup;
 mod positions;
 mod routes;
 mod streams;
@@ -35,7 +34,6 @@ mod streams;
 mod tests;
 
 use crate::evaluation::Evaluation;
-use crate::lookup::output_index;
 use crate::positions::{aligned, reaches};
 use connections::Checked;
 use graph_model::List;
@@ -48,9 +46,9 @@ use std::alloc::{AllocError, Global};
 /// with one for each channel of the output node. Samples are whole numbers of at most 2^31 in size. An output channel
 /// that nothing is connected to is silent.
 pub fn answer(alloc: Global, graph: &Checked, input: &[i64]) -> Result<List<i64>, AllocError>
-    requires whole { length input.now % outs_at graph.now (input_name graph.now) ≡ 0 }
+    requires whole { length input.now % in_channels graph.now ≡ 0 }
     requires small { AreUpTo (2 ^ 31) input.now }
-    ensures { IfOk result (λ v. v ≡ interleaved (answer graph.now (frames_of (outs_at graph.now (input_name graph.now)) input.now))) }
+    ensures { IfOk result (λ v. v ≡ interleaved (answer graph.now (frames_of (in_channels graph.now) input.now))) }
 {
     let positions = reaches(alloc, graph)?;
     rendered(alloc, graph, &positions, input)
@@ -66,12 +64,13 @@ pub fn answer_at(
     at: &List<At>,
     input: &[i64],
 ) -> Result<List<i64>, AllocError>
-    requires whole { length input.now % outs_at graph.now (input_name graph.now) ≡ 0 }
+    requires whole { length input.now % in_channels graph.now ≡ 0 }
     requires small { AreUpTo (2 ^ 31) input.now }
     requires nodes { AreLiveNodes graph.now (map (λ a. a.uid.0) at.now) }
     requires alignment { IsAlignment graph.now (position_in at.now) }
     requires near { position_in at.now (output_name graph.now) ≤ 2 ^ 26 }
-    ensures { IfOk result (λ v. v ≡ interleaved (shifted (position_in at.now (output_name graph.now) - latency_of_graph graph.now) (ins_at graph.now (output_name graph.now)) (answer graph.now (frames_of (outs_at graph.now (input_name graph.now)) input.now)))) }
+    ensures { IfOk result (λ v. v ≡ interleaved (shifted (position_in at.now (output_name graph.now) - latency_of_graph graph.now)
+        (out_channels graph.now) (answer graph.now (frames_of (in_channels graph.now) input.now)))) }
 {
     let positions = aligned(alloc, graph, at.as_slice())?;
     rendered(alloc, graph, &positions, input)
@@ -84,14 +83,15 @@ fn rendered(
     positions: &[u64],
     input: &[i64],
 ) -> Result<List<i64>, AllocError>
-    requires whole { length input.now % outs_at graph.now (input_name graph.now) ≡ 0 }
+    requires whole { length input.now % in_channels graph.now ≡ 0 }
     requires small { AreUpTo (2 ^ 31) input.now }
     requires count { length positions.now ≡ length graph.now.nodes }
     requires alignment { IsAlignment graph.now (position_at graph.now positions.now) }
-    ensures { IfOk result (λ v. v ≡ interleaved (shifted (position_at graph.now positions.now (output_name graph.now) - latency_of_graph graph.now) (ins_at graph.now (output_name graph.now)) (answer graph.now (frames_of (outs_at graph.now (input_name graph.now)) input.now)))) }
+    ensures { IfOk result (λ v. v ≡ interleaved (shifted (position_at graph.now positions.now (output_name graph.now) - latency_of_graph graph.now)
+        (out_channels graph.now) (answer graph.now (frames_of (in_channels graph.now) input.now)))) }
 {
     let evaluation = Evaluation::new(alloc, graph, positions, input)?;
     let streams = evaluation.streams(alloc)?;
-    let output = evaluation.incoming(alloc, &streams, output_index(graph.graph()))?;
+    let output = evaluation.incoming(alloc, &streams, graph.output() as usize)?;
     List::from_slice(alloc, &output)
 }

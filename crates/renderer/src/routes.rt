@@ -8,7 +8,6 @@ ghost use Rattle.renderer.specs.Positions.{position_at};
 ghost use Rattle.renderer.specs.Routes.{IsRoute, AreRoutes, IsAdded};
 ghost use Rattle.graph_model.specs.Bounds.{AreUpTo};
 
-use crate::lookup::place_of;
 use connections::Checked;
 use graph_model::{Connection, latency};
 use std::alloc::{AllocError, Global};
@@ -58,7 +57,7 @@ fn leads_on(checked: &Checked, connection: &Connection) -> bool
     requires { Contains checked.now.connections connection.now }
     ensures { result ≡ is_live checked.now connection.now.dst.0 }
 {
-    let dst = place_of(checked.graph(), connection.dst).unwrap();
+    let dst = checked.graph().index_of(connection.dst).unwrap();
     checked.is_live(dst as u32)
 }
 
@@ -70,8 +69,8 @@ fn route_of(checked: &Checked, positions: &[u64], connection: &Connection) -> Ro
     ensures { IsRoute checked.now (position_at checked.now positions.now) connection.now result }
 {
     let graph = checked.graph();
-    let src = place_of(graph, connection.src).unwrap();
-    let dst = place_of(graph, connection.dst).unwrap();
+    let src = graph.index_of(connection.src).unwrap();
+    let dst = graph.index_of(connection.dst).unwrap();
     let source = &graph.nodes.as_slice()[src];
     let destination = &graph.nodes.as_slice()[dst];
     let ready = positions[dst];

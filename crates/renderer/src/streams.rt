@@ -1,7 +1,7 @@
 //! The streams of the processors: the one place where a kind's frames are made.
 
 ghost use Rattle.std.specs.Prelude.{◌≡◌, ◌%◌, ◌++◌, IfOk, OnOk, length};
-ghost use Rattle.fixed_kernels.specs.Kernels.{IsBoundOf};
+ghost use Rattle.graph_model.specs.Kernels.{IsBoundOf};
 ghost use Rattle.graph_model.specs.Bounds.{IsWithin};
 ghost use Rattle.graph_model.specs.Histories.{frames_of, interleaved};
 ghost use Rattle.graph_model.specs.Kinds.{ins_of, stream_of};
@@ -9,7 +9,7 @@ ghost use Rattle.graph_model.specs.Ranges.{HasRange};
 ghost use Rattle.processors.specs.Types.{IsBetweenEnds};
 
 use graph_model::{Bound, Kind, List};
-use processors::Processor;
+use processors::{Kernel, Processor};
 use std::alloc::{AllocError, Global};
 
 /// Adds a frame at the end of interleaved samples.

@@ -6,7 +6,6 @@ ghost use Rattle.plan_model.specs.Alignments.{IsAlignment, position_in};
 ghost use Rattle.plan_model.specs.Certified.{AreLiveNodes};
 ghost use Rattle.graph_model.specs.Bounds.{AreUpTo};
 
-use crate::lookup::input_channels;
 use crate::{answer, answer_at};
 use connections::check;
 use graph_model::{Connection, Graph, Kind, List, Node, Uid};
@@ -38,7 +37,7 @@ fn rendered(
 {
     let input = scaled_up(alloc, samples)?;
     let checked = check(alloc, graph)?;
-    let left = input.len() % input_channels(checked.graph());
+    let left = input.len() % checked.input_channels() as usize;
     assert_eq!(rt; left, 0);
     Ok(answer(alloc, &checked, input.as_slice())?)
 }
@@ -150,7 +149,7 @@ fn rendered_at(
     let (graph, at) = fan_out(alloc, late)?;
     let input = scaled_up(alloc, samples)?;
     let checked = check(alloc, graph)?;
-    let left = input.len() % input_channels(checked.graph());
+    let left = input.len() % checked.input_channels() as usize;
     assert_eq!(rt; left, 0);
     Ok(answer_at(alloc, &checked, &at, input.as_slice())?)
 }

@@ -1,14 +1,15 @@
-use Rattle.std.proofs.Common.{◌≡◌, suc, ◌+◌, ◌-◌, ◌*◌, ◌/◌, ◌<◌, ◌∷◌, ◌++◌, length, take, drop, sym, ◌∙◌, ap, subst, arith}
+use Rattle.std.proofs.Common.{◌≡◌, suc, ◌+◌, ◌-◌, ◌*◌, ◌/◌, ◌<◌, ◌∷◌, ◌++◌, length, take, drop, sym, ◌∙◌, ap, subst, arith, rules}
 use Rattle.std.proofs.lemmas.List.{with_items_is}
 use Rattle.graph_model.specs.Histories.{Frame, History, before, frame_in, interleaved, newest}
 use Rattle.graph_model.specs.Kinds.{ins_of, stream_of}
 use Rattle.graph_model.specs.declared.graph.Bound.{Bound}
-use Rattle.fixed_kernels.specs.Kernels.{IsFrameWithin, Stands}
+use Rattle.graph_model.specs.Kernels.{IsFrameWithin}
+use Rattle.fixed_kernels.specs.Kernels.{Keeps}
 use Rattle.graph_model.proofs.StreamFacts.{frame_is, frame_within}
 use Rattle.renderer.proofs.streams.outgoing.Goals as goal
 
-pub frame-requires-clause-within : goal.frame-requires-clause-within
-frame-requires-clause-within c =
+pub frame-requires : goal.frame-requires
+frame-requires c =
     let cut : Frame = take c.ins-ins.result (take (length c.args.incoming.now - c.loop-time.time * c.ins-ins.result) (drop (c.loop-time.time * c.ins-ins.result) c.args.incoming.now)) in
     let seen : cut ≡ frame_in (ins_of c.args.kind.now) c.args.incoming.now c.loop-time.time =
     frame_is c.ins-ins.result c.loop-time.time c.args.incoming.now ∙ ap (λ m. frame_in m c.args.incoming.now c.loop-time.time) c.ins-ins.ensures in
@@ -16,7 +17,11 @@ frame-requires-clause-within c =
     subst (λ m. c.loop-time.time < length c.args.incoming.now / m) c.ins-ins.ensures c.loop-time-test.true in
     let within : IsFrameWithin c.args.bound.now.ins (frame_in (ins_of c.args.kind.now) c.args.incoming.now c.loop-time.time) =
     frame_within c.args.bound.now.ins (frame_in (ins_of c.args.kind.now) c.args.incoming.now) (length c.args.incoming.now / ins_of c.args.kind.now) c.loop-time.time c.requires.within early in
-    subst (λ (b : Bound). IsFrameWithin b.ins cut) (sym c.loop-time.invariant.bound) (subst (IsFrameWithin c.args.bound.now.ins) (sym seen) within)
+    record {
+      ins = search rules;
+      outs = search rules;
+      within = subst (λ (b : Bound). IsFrameWithin b.ins cut) (sym c.loop-time.invariant.bound) (subst (IsFrameWithin c.args.bound.now.ins) (sym seen) within);
+    }
 
 pub loop-time-preserved : goal.loop-time-preserved
 loop-time-preserved c =
@@ -34,7 +39,7 @@ loop-time-preserved c =
     record {
       kind = c.frame.ensures.kind ∙ c.loop-time.invariant.kind;
       bound = c.frame.ensures.bound ∙ c.loop-time.invariant.bound;
-      stands = subst (Stands c.frame.new.self) longer (c.frame.ensures.stands h c.loop-time.invariant.stands);
+      stands = subst (Keeps c.frame.new.self) longer (c.frame.ensures.stands h c.loop-time.invariant.stands);
       wide = ap (λ xs. length xs) written ∙ c.frame.auto.outs ∙ ap (λ xs. length xs) c.deref_mut.ensures.value ∙ c.loop-time.invariant.wide;
       outgoing = c.in_ok-append.ensures ∙ ap (λ xs. c.loop-time.outgoing ++ xs) (c.deref.ensures.value ∙ written ∙ given)
           ∙ ap (λ xs. xs ++ newest (stream_of c.args.kind.now (cut ∷ h))) c.loop-time.invariant.outgoing
