@@ -1,20 +1,13 @@
 //! The checks of the nodes.
 
-ghost use Rattle.std.specs.Prelude.{◌≡◌, ◌≤◌, ◌==◌, length, position, count_by, MatchResult};
+ghost use Rattle.std.specs.Prelude.{◌≡◌, count_by, MatchResult};
 ghost use Rattle.graph_model.specs.Graphs.{is_input, is_output};
 ghost use Rattle.graph_model.specs.Sound.{Fits};
 ghost use Rattle.connections.specs.Faults.{UidsDiffer, AreInRange, HasGoodNodes, HasEnds, IsFirstFault};
 
 use crate::fault::GraphFault;
 use crate::members::bad_member;
-use graph_model::{Graph, Kind, Node, Uid};
-
-/// The first place of a uid.
-fn place_of(nodes: &[Node], uid: Uid) -> Option<usize>
-    ensures { result ≡ position (λ n. n.uid.0 == uid.0) nodes.now }
-{
-    nodes.iter().position(|node| node.uid.0 == uid.0)
-}
+use graph_model::{Graph, Node};
 
 /// Finds a uid that stands twice.
 fn check_uids(graph: &Graph) -> Result<(), GraphFault>
@@ -24,12 +17,15 @@ fn check_uids(graph: &Graph) -> Result<(), GraphFault>
     let nodes = graph.nodes.as_slice();
     for second in 0..nodes.len() {
         let uid = nodes[second].uid;
-        if let Some(first) = place_of(&nodes[..second], uid) {
-            return Err(GraphFault::UidTwice {
-                uid,
-                first: first as u32,
-                second: second as u32,
-            });
+        match graph.index_of(uid) {
+            Some(first) if first < second => {
+                return Err(GraphFault::UidTwice {
+                    uid,
+                    first: first as u32,
+                    second: second as u32,
+                });
+            }
+            _ => {}
         }
     }
     Ok(())
@@ -57,7 +53,7 @@ fn inputs(nodes: &[Node]) -> usize
 {
     nodes
         .iter()
-        .filter(|node| matches!(node.kind, Kind::Input { .. }))
+        .filter(|node| node.kind.is_input())
         .count()
 }
 
@@ -67,7 +63,7 @@ fn outputs(nodes: &[Node]) -> usize
 {
     nodes
         .iter()
-        .filter(|node| matches!(node.kind, Kind::Output { .. }))
+        .filter(|node| node.kind.is_output())
         .count()
 }
 
