@@ -1,5 +1,5 @@
 -- The two ends of a sound graph: their places, and their 1 to 32 channels.
-use Rattle.std.proofs.Common.{◌≡◌, ℕ, ◌<◌, ◌≤◌, List, length, get_or, Bool, true, Some, refl, sym, ap, ◌∙◌}
+use Rattle.std.proofs.Common.{◌≡◌, ℕ, ◌<◌, ◌≤◌, List, length, get_or, Bool, true, Some, refl, sym, ap, ◌∙◌, subst, arith}
 use Rattle.std.specs.List.{position, find}
 use Rattle.std.specs.Option.{IsSome, is_some}
 use Rattle.std.proofs.lemmas.Bool.{false≢true}
@@ -12,6 +12,11 @@ use Rattle.graph_model.specs.declared.kind.Kind.{Kind}
 use Rattle.graph_model.specs.declared.kind.Kind.TheVariants.{Input, Output}
 use Rattle.graph_model.specs.declared.graph.Node.{Node}
 use Rattle.graph_model.specs.declared.graph.Graph.{Graph}
+use Rattle.std.proofs.lemmas.List.{get_or_default}
+use Rattle.graph_model.specs.declared.graph.Connection.{Connection}
+use Rattle.topology.specs.Links.{AreLinks, no_link}
+use Rattle.topology.specs.declared.ends.Link.{Link}
+use Rattle.topology.proofs.LinkFacts.{any_connection, count, source_is, target_is}
 use Rattle.graph_model.proofs.NameFacts.{any_node, name_is}
 use Rattle.topology.proofs.OutputFacts.{output_found, output_named}
 use Rattle.graph_model.proofs.NodeFacts.{has_place, input_exists, input_found, ins_is, position_found, range_at}
@@ -61,3 +66,26 @@ module _ (g : Graph) (sound : IsSound g) where
 
   pub output_at : (i : ℕ) → position (λ n. is_output n.kind) g.nodes ≡ Some i → (i < length g.nodes) × (uid_at g i ≡ output_name g)
   output_at i e = first_named (λ n. is_output n.kind) g i e
+
+-- ---- the ends of a connection
+pub record AreEnds (g : Graph) (k : ℕ) (l : Link) : Type 0 where
+  pub within : (l.from < length g.nodes) × (l.to < length g.nodes)
+  pub source : (d : Connection) → uid_at g l.from ≡ (get_or g.connections k d).src.0
+  pub destination : (d : Connection) → uid_at g l.to ≡ (get_or g.connections k d).dst.0
+
+ends_at : (g : Graph) (ls : List Link) (k : ℕ) (l : Link) → AreLinks g ls → k < length g.connections → l ≡ get_or ls k l → AreEnds g k l
+ends_at g ls k l links lt is =
+    let inside : k < length ls = (let n = count g ls links in omega arith) in
+    let at : l ≡ get_or ls k no_link = is ∙ get_or_default ls k l no_link inside in
+    record {
+      within = subst (λ (m : Link). (m.from < length g.nodes) × (m.to < length g.nodes)) (sym at) (links.within k inside);
+      source = λ d. ap (λ (m : Link). uid_at g m.from) at ∙ source_is g ls links k inside ∙ ap (λ (c : Connection). c.src.0) (get_or_default g.connections k any_connection d lt);
+      destination = λ d. ap (λ (m : Link). uid_at g m.to) at ∙ target_is g ls links k inside ∙ ap (λ (c : Connection). c.dst.0) (get_or_default g.connections k any_connection d lt);
+    }
+
+-- what is kept of the graph g, at the index of a connection of v, which is g
+pub kept_ends : (v g : Graph) (ls : List Link) (k : ℕ) (l : Link) → g ≡ v → AreLinks g ls → k < length v.connections → l ≡ get_or ls k l → AreEnds v k l
+kept_ends v g ls k l same links = ends_at v ls k l (subst (λ h. AreLinks h ls) same links)
+
+pub links_reach : (v g : Graph) (ls : List Link) (k : ℕ) → g ≡ v → AreLinks g ls → k < length v.connections → k < length ls
+links_reach v g ls k same links lt = let n = count v ls (subst (λ h. AreLinks h ls) same links) in omega arith

@@ -140,7 +140,7 @@ impl Checked {
         ensures latency { result ≡ latency_of_graph self.now }
         ensures small { result ≤ 2 ^ 26 }
     {
-        self.reach(self.output())
+        self.reach.at.as_slice()[self.output() as usize]
     }
 
     /// The nodes that a connection joins. Connections are named by their indexes, as nodes are.

@@ -1,13 +1,20 @@
 //! The checks of the nodes.
 
-ghost use Rattle.std.specs.Prelude.{◌≡◌, count_by, MatchResult};
+ghost use Rattle.std.specs.Prelude.{◌≡◌, ◌≤◌, ◌==◌, length, position, count_by, MatchResult};
 ghost use Rattle.graph_model.specs.Graphs.{is_input, is_output};
 ghost use Rattle.graph_model.specs.Sound.{Fits};
 ghost use Rattle.connections.specs.Faults.{UidsDiffer, AreInRange, HasGoodNodes, HasEnds, IsFirstFault};
 
 use crate::fault::GraphFault;
 use crate::members::bad_member;
-use graph_model::{Graph, Node};
+use graph_model::{Graph, Node, Uid};
+
+/// The first place of a uid among these nodes.
+fn place_of(nodes: &[Node], uid: Uid) -> Option<usize>
+    ensures { result ≡ position (λ n. n.uid.0 == uid.0) nodes.now }
+{
+    nodes.iter().position(|node| node.uid.0 == uid.0)
+}
 
 /// Finds a uid that stands twice.
 fn check_uids(graph: &Graph) -> Result<(), GraphFault>
@@ -17,15 +24,12 @@ fn check_uids(graph: &Graph) -> Result<(), GraphFault>
     let nodes = graph.nodes.as_slice();
     for second in 0..nodes.len() {
         let uid = nodes[second].uid;
-        match graph.index_of(uid) {
-            Some(first) if first < second => {
-                return Err(GraphFault::UidTwice {
-                    uid,
-                    first: first as u32,
-                    second: second as u32,
-                });
-            }
-            _ => {}
+        if let Some(first) = place_of(&nodes[..second], uid) {
+            return Err(GraphFault::UidTwice {
+                uid,
+                first: first as u32,
+                second: second as u32,
+            });
         }
     }
     Ok(())
@@ -51,20 +55,14 @@ fn check_members(graph: &Graph) -> Result<(), GraphFault>
 fn inputs(nodes: &[Node]) -> usize
     ensures { result ≡ count_by (λ n. is_input n.kind) nodes.now }
 {
-    nodes
-        .iter()
-        .filter(|node| node.kind.is_input())
-        .count()
+    nodes.iter().filter(|node| node.kind.is_input()).count()
 }
 
 /// How many output nodes there are.
 fn outputs(nodes: &[Node]) -> usize
     ensures { result ≡ count_by (λ n. is_output n.kind) nodes.now }
 {
-    nodes
-        .iter()
-        .filter(|node| node.kind.is_output())
-        .count()
+    nodes.iter().filter(|node| node.kind.is_output()).count()
 }
 
 /// Finds another number of input or output nodes than one.
