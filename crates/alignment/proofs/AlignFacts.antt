@@ -12,9 +12,9 @@ use Rattle.min_cost_flow.specs.declared.network.Solved.{Solved}
 use Rattle.plan_model.specs.Alignments.{position_in, total}
 use Rattle.plan_model.specs.Flows.{IsFlow, flow_bound}
 use Rattle.plan_model.specs.Results.{IsAligned}
-use Rattle.plan_model.specs.declared.plan.At.{At}
-use Rattle.plan_model.specs.declared.plan.LineAt.{LineAt}
-use Rattle.plan_model.specs.declared.plan.Units.{Units}
+use Rattle.plan_model.specs.declared.alignment.At.{At}
+use Rattle.plan_model.specs.declared.alignment.LineAt.{LineAt}
+use Rattle.plan_model.specs.declared.flow.Units.{Units}
 use Rattle.plan_model.proofs.DualityLaws.{tight_is_optimum_law}
 use Rattle.alignment.specs.Carried.{carried_by}
 use Rattle.alignment.specs.Links.{links_of}

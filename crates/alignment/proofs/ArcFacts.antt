@@ -20,8 +20,11 @@ use Rattle.graph_model.proofs.PathLaws.{at_tail, first_or_later, same_name}
 use Rattle.graph_model.proofs.RangeLaws.{in_range}
 use Rattle.graph_model.proofs.RankLaws.{sound_is_ranked}
 use Rattle.graph_model.proofs.NameFacts.{same_uid}
-use Rattle.plan_model.specs.Flows.{Difference, is_between, along, from_root, network, arc_between}
-use Rattle.plan_model.proofs.DualityLaws.{all_append, all_map, all_weaker, named, live_names, output_is_node}
+use Rattle.plan_model.specs.Flows.{is_between, along, from_root, network, arc_between}
+use Rattle.plan_model.specs.Networks.{Difference}
+use Rattle.plan_model.proofs.DualityLaws.{named, live_names}
+use Rattle.plan_model.proofs.NetworkLaws.{all_append, all_map, all_weaker}
+use Rattle.graph_model.proofs.NodeFacts.{output_is_node}
 
 -- ---- lists
 -- the only entry that passes is the one that is found
@@ -68,7 +71,7 @@ least_between g (suc t) zero = cond (suc t == output_name g) (neg_ℤ (pos (late
 least_between g (suc t) (suc h) = pos (latency_at g (suc t))
 
 -- the least difference is the one between its ends
-abbrev IsAsBetween : Graph → Difference → Type 0
+abbrev IsAsBetween : Graph → Difference ℕ → Type 0
 IsAsBetween g d = d.least ≡ least_between g d.tail d.head
 
 module _ (g : Graph) (sound : IsSound g) where
@@ -129,7 +132,7 @@ module _ (g : Graph) (sound : IsSound g) where
       to_root_as false = (last, tt)
 
   -- two of them with the same ends are one
-  same_ends : (d e : Difference) → IsAsBetween g d → IsAsBetween g e → is_between e.tail e.head d ≡ true → d ≡ e
+  same_ends : (d e : Difference ℕ) → IsAsBetween g d → IsAsBetween g e → is_between e.tail e.head d ≡ true → d ≡ e
   same_ends d e at_d at_e is =
       let t : d.tail ≡ e.tail = eqb-true _ _ (first_so _ _ is) in
       let h : d.head ≡ e.head = eqb-true _ _ (second_so _ _ is) in
@@ -137,7 +140,7 @@ module _ (g : Graph) (sound : IsSound g) where
       λ i. record { tail = t i; head = h i; least = least i }
 
 -- each difference of the network is the one that is found between its ends
-pub arc_found : (g : Graph) → IsSound g → (d : Difference) → Contains (network g (latency_of_graph g)) d → arc_between g (latency_of_graph g) d.tail d.head ≡ Some d
+pub arc_found : (g : Graph) → IsSound g → (d : Difference ℕ) → Contains (network g (latency_of_graph g)) d → arc_between g (latency_of_graph g) d.tail d.head ≡ Some d
 arc_found g sound d has =
     let all = All-from_recursion (IsAsBetween g) (network g (latency_of_graph g)) (as_between g sound) in
     find_only (is_between d.tail d.head) (network g (latency_of_graph g)) d has (and_from _ _ (same_name d.tail) (same_name d.head))

@@ -17,9 +17,10 @@ use Rattle.graph_model.specs.Sound.{IsSound}
 use Rattle.graph_model.specs.declared.graph.Connection.{Connection}
 use Rattle.graph_model.specs.declared.graph.Graph.{Graph}
 use Rattle.plan_model.specs.Certified.{AreArcs}
-use Rattle.plan_model.specs.Flows.{IsBalanced, IsFlow, IsBeforeArc, arc_between, least_or_zero, flow_weight, flow_bound, need_of_point}
+use Rattle.plan_model.specs.Flows.{IsBalanced, IsFlow, IsBeforeArc, arc_between, flow_weight, flow_bound, need_of_point}
+use Rattle.plan_model.specs.Networks.{least_or_zero}
 use Rattle.plan_model.specs.Pairs.{ComesBefore}
-use Rattle.plan_model.specs.declared.plan.Units.{Units}
+use Rattle.plan_model.specs.declared.flow.Units.{Units}
 use Rattle.min_cost_flow.specs.Flow.{MeetsNeeds, units_where}
 use Rattle.min_cost_flow.specs.Laws.{weighted}
 use Rattle.min_cost_flow.specs.declared.network.Arc.{Arc}

@@ -10,4 +10,3 @@ pub mod NeedFacts
 pub mod NetworkFacts
 pub mod AlignFacts
 pub mod PlaceFacts
-pub mod OneFacts

@@ -12,11 +12,11 @@ use Rattle.graph_model.proofs.RankLaws.{sound_is_ranked}
 use Rattle.graph_model.specs.declared.graph.Connection.{Connection}
 use Rattle.graph_model.specs.declared.graph.Graph.{Graph}
 use Rattle.plan_model.proofs.DualityLaws.{names}
-use Rattle.plan_model.proofs.WaveLaws.{tested, shown}
+use Rattle.graph_model.proofs.LiveLaws.{live_test, live_by}
 use Rattle.plan_model.specs.Flows.{IsPoint}
 use Rattle.std.proofs.lemmas.List.{get_or_default, append_assoc, append-nil}
 use Rattle.min_cost_flow.specs.declared.network.Arc.{Arc}
-use Rattle.plan_model.proofs.DualityLaws.{output_is_live}
+use Rattle.graph_model.proofs.LiveLaws.{output_is_live}
 use Rattle.alignment.proofs.ArcFacts.{input_named}
 use Rattle.alignment.proofs.StepFacts.{joined_last}
 use Rattle.alignment.specs.Networks.{ArePoints, number_in}
@@ -44,14 +44,14 @@ module _ (g : Graph) (points : List ℕ) (sound : IsSound g) (are : ArePoints g 
 
   -- a live node is a point
   pub live_there : (v : ℕ) → is_live g v ≡ true → Contains points v
-  live_there v is = are.all v (inr (shown g sound [] v is))
+  live_there v is = are.all v (inr (live_by g sound v is))
 
   -- and a point that is a node is live
   pub there_live : (v : ℕ) → 1 ≤ v → Contains points v → is_live g v ≡ true
   there_live v named has =
       elim (subst (IsPoint g) has.2 (are.each has.0 v has.1)) [
         | inl root ↦ absurd (omega (arith, root, named))
-        | inr live ↦ tested g sound [] v live
+        | inr live ↦ live_test g sound v live
       ]
 
   -- a connection that is not live is no link
@@ -102,7 +102,7 @@ module _ (g : Graph) (points : List ℕ) (sound : IsSound g) (are : ArePoints g 
   -- ---- the arcs to the root
   -- the output node is a point
   pub output_point : Contains points (output_name g)
-  output_point = live_there (output_name g) (output_is_live g (depth g) sound (sound_is_ranked g sound))
+  output_point = live_there (output_name g) (output_is_live g sound)
 
   -- an input node that is a point has its arc
   pub input_made : (old : List Arc) (tail : ℕ) → tail < length points → slice_index points tail ≡ input_name g

@@ -17,7 +17,7 @@ use Rattle.alignment.specs.Links.{links_from, links_of, link_of, need_at}
 use Rattle.alignment.specs.declared.links.Link.{Link}
 use Rattle.alignment.proofs.FlowFacts.{same_test}
 use Rattle.alignment.proofs.PlaceLists.{stands_at}
-use Rattle.alignment.proofs.ValueFacts.{ends_live}
+use Rattle.graph_model.proofs.LiveLaws.{ends_live}
 
 -- as many links pass a test as live connections pass the same test
 counted : (g : Graph) (points : List ℕ) (p : Link → Bool) (q : Connection → Bool) (k : ℕ) (cs : List Connection)

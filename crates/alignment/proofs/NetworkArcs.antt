@@ -18,18 +18,20 @@ use Rattle.graph_model.specs.Sound.{IsSound}
 use Rattle.graph_model.specs.declared.graph.Connection.{Connection}
 use Rattle.graph_model.specs.declared.graph.Graph.{Graph}
 use Rattle.min_cost_flow.specs.declared.network.Arc.{Arc}
-use Rattle.plan_model.specs.Flows.{Difference, along, from_root, network, arc_between, least_or_zero}
+use Rattle.plan_model.specs.Flows.{along, from_root, network, arc_between}
+use Rattle.plan_model.specs.Networks.{Difference, least_or_zero}
 use Rattle.plan_model.specs.Pairs.{ComesBefore}
-use Rattle.plan_model.proofs.DualityLaws.{all_append, all_map, all_weaker}
+use Rattle.plan_model.proofs.NetworkLaws.{all_append, all_map, all_weaker}
 use Rattle.plan_model.proofs.Saved.{Contains-map}
 use Rattle.alignment.specs.Networks.{ArePoints, AreNetworkArcs, number_in, named}
 use Rattle.alignment.specs.Links.{links_of, link_of, links_from, arc_along, arc_from_root, arcs_to_root}
 use Rattle.alignment.specs.declared.links.Link.{Link}
 use Rattle.alignment.proofs.PlaceLists.{stands_at, zero_first, links_all, links_few}
-use Rattle.alignment.proofs.ValueFacts.{live_is_named, along_there, from_root_there, input_there, output_there, ends_live, output_live}
+use Rattle.alignment.proofs.ValueFacts.{live_is_named, along_there, from_root_there, input_there, output_there}
+use Rattle.graph_model.proofs.LiveLaws.{ends_live, output_live}
 use Rattle.alignment.proofs.ArcFacts.{arc_found}
 use Rattle.graph_model.proofs.ReachLaws.{filter_has, filter_from}
-use Rattle.plan_model.proofs.WaveLaws.{shown}
+use Rattle.graph_model.proofs.LiveLaws.{live_by}
 use Rattle.std.proofs.lemmas.List.FromFn.{length-range_with_len, get_or-range_with_len, length-map-range_with_len, get_or-map-range_with_len}
 
 -- ---- the order of arcs
@@ -91,7 +93,7 @@ module _ (g : Graph) (points : List ℕ) (sound : IsSound g) (are : ArePoints g 
   live_at v live = stands_at points v (are.all v (inr live))
 
   -- between these names it is the difference that is named
-  as_named : (a : Arc) (d : Difference) → a.tail < length points → a.head < length points → slice_index points a.tail ≡ d.tail → slice_index points a.head ≡ d.head → a.least ≡ d.least
+  as_named : (a : Arc) (d : Difference ℕ) → a.tail < length points → a.head < length points → slice_index points a.tail ≡ d.tail → slice_index points a.head ≡ d.head → a.least ≡ d.least
       → Contains (network g (latency_of_graph g)) d → IsNetworkArc a × (named points a ≡ d)
   as_named a d t h tail head least has =
       let same : named points a ≡ d = λ i. record { tail = tail i; head = head i; least = least i } in
@@ -150,11 +152,11 @@ module _ (g : Graph) (points : List ℕ) (sound : IsSound g) (are : ArePoints g 
 
       to_root_all : (b : Bool) → is_live g (input_name g) ≡ b → AllByRecursion IsNetworkArc
           (cond b (record { tail = number_in points (input_name g); head = 0; least = pos 0 } ∷ []) [] ++ record { tail = number_in points (output_name g); head = 0; least = neg_ℤ (pos (latency_of_graph g)) } ∷ [])
-      to_root_all true e = ((input_is (shown g sound [] (input_name g) e)).0, (output_is.0, tt))
+      to_root_all true e = ((input_is (live_by g sound (input_name g) e)).0, (output_is.0, tt))
       to_root_all false e = (output_is.0, tt)
 
   -- ---- each difference of the network is made
-  abbrev IsMade : Difference → Type 0
+  abbrev IsMade : Difference ℕ → Type 0
   IsMade d = (a : Arc) × Contains made a × (named points a ≡ d)
 
   in_links : (a : Arc) → Contains (map arc_along (links_of g points)) a → Contains made a
@@ -196,7 +198,7 @@ module _ (g : Graph) (points : List ℕ) (sound : IsSound g) (are : ArePoints g 
   input_made_of : is_live g (input_name g) ≡ true → IsMade (record { tail = input_name g; head = 0; least = pos 0 })
   input_made_of e =
       let a : Arc = record { tail = number_in points (input_name g); head = 0; least = pos 0 } in
-      (a, in_to_root a (Contains-append_left (cond (is_live g (input_name g)) (a ∷ []) []) _ a (rw e (0, omega arith, refl))), (input_is (shown g sound [] (input_name g) e)).1)
+      (a, in_to_root a (Contains-append_left (cond (is_live g (input_name g)) (a ∷ []) []) _ a (rw e (0, omega arith, refl))), (input_is (live_by g sound (input_name g) e)).1)
 
   output_made_of : IsMade (record { tail = output_name g; head = 0; least = neg_ℤ (pos (latency_of_graph g)) })
   output_made_of =
@@ -209,7 +211,7 @@ module _ (g : Graph) (points : List ℕ) (sound : IsSound g) (are : ArePoints g 
       (all_map IsMade (along g) (live_connections g) (recursion_from_All (λ c. IsMade (along g c)) (live_connections g) (λ k d lt. along_made _ (Contains-get_or (live_connections g) k d lt))))
       (all_append IsMade (map from_root (live_nodes g)) _
       (all_map IsMade from_root (live_nodes g) (recursion_from_All (λ v. IsMade (from_root v)) (live_nodes g) (λ k d lt.
-      from_root_made _ (shown g sound [] _ (filter_from (is_live g) (map (λ n. n.uid.0) g.nodes) _ (Contains-get_or (live_nodes g) k d lt)).1))))
+      from_root_made _ (live_by g sound _ (filter_from (is_live g) (map (λ n. n.uid.0) g.nodes) _ (Contains-get_or (live_nodes g) k d lt)).1))))
       (to_root_made_all (is_live g (input_name g)) refl))
     where
       to_root_made_all : (b : Bool) → is_live g (input_name g) ≡ b → AllByRecursion IsMade
@@ -254,7 +256,7 @@ module _ (g : Graph) (points : List ℕ) (sound : IsSound g) (are : ArePoints g 
       all_kept : All IsNetworkArc (dedup (eq_by_cmp order) sorted)
       all_kept = All-dedup (eq_by_cmp order) IsNetworkArc sorted (All-permutation IsNetworkArc made sorted moved (All-from_recursion IsNetworkArc made made_all))
 
-      there : (d : Difference) → IsMade d → Contains (map (named points) (dedup (eq_by_cmp order) sorted)) d
+      there : (d : Difference ℕ) → IsMade d → Contains (map (named points) (dedup (eq_by_cmp order) sorted)) d
       there d (a, has, at) =
           subst (Contains (map (named points) (dedup (eq_by_cmp order) sorted))) at
           (Contains-map (named points) (dedup (eq_by_cmp order) sorted) a (Contains-dedup (eq_by_cmp_equiv total) tied_same sorted a (Contains-permutation made sorted a moved has)))

@@ -36,9 +36,13 @@ use Rattle.shortest_paths.specs.declared.edges.Edge.{Edge}
 use Rattle.shortest_paths.proofs.WalkLemmas.{IsWalk-append}
 use Rattle.plan_model.specs.Alignments.{IsAlignment}
 use Rattle.plan_model.specs.Duality.{rooted}
-use Rattle.plan_model.specs.Flows.{Difference, IsPoint, along, from_root, need_of_point, network}
+use Rattle.plan_model.specs.Flows.{IsPoint, along, from_root, need_of_point, network}
+use Rattle.plan_model.specs.Networks.{Difference}
 use Rattle.plan_model.proofs.Below.{count_by-le_one, count_by_at}
-use Rattle.plan_model.proofs.DualityLaws.{Keeps, all_append, all_map, all_weaker, found_in, keeps_all, live_ends, output_is_live, output_is_node}
+use Rattle.plan_model.proofs.DualityLaws.{Keeps, keeps_all, live_ends}
+use Rattle.plan_model.proofs.NetworkLaws.{all_append, all_map, all_weaker}
+use Rattle.graph_model.proofs.NodeFacts.{find-all, output_is_node}
+use Rattle.graph_model.proofs.LiveLaws.{live_by, output_is_live}
 use Rattle.plan_model.proofs.LatencyLaws.{few_frames_late}
 use Rattle.plan_model.proofs.Saved.{Contains-from_map, Contains-map}
 use Rattle.plan_model.proofs.SumLaws.{sum_none, sum_same}
@@ -173,7 +177,7 @@ few_frames (Delay channels samples) r = omega arith
 few_frames (Insert channels samples) r = r.1
 
 -- a difference constraint whose least difference is within the bound
-abbrev HasLeastWithin : ℕ → Difference → Type 0
+abbrev HasLeastWithin : ℕ → Difference ℕ → Type 0
 HasLeastWithin bound d = IsWithin bound d.least
 
 -- the least differences are within the latencies
@@ -192,17 +196,17 @@ leasts_within g bound latency each most =
 module _ (g : Graph) (points : List ℕ) (net : Network) (sound : IsSound g) (are : ArePoints g points) (is : IsNetworkOf g points net) where
   -- ---- walks
   -- the arc of a difference of the network
-  arc_of : (d : Difference) → Contains (network g (latency_of_graph g)) d → (a : Arc) × Contains net.arcs a × (named points a ≡ d)
+  arc_of : (d : Difference ℕ) → Contains (network g (latency_of_graph g)) d → (a : Arc) × Contains net.arcs a × (named points a ≡ d)
   arc_of d has = Contains-from_map (named points) net.arcs d (All-contains (Contains (map (named points) net.arcs)) (network g (latency_of_graph g)) d is.arcs.all has)
 
   -- it leads from any place of its tail to any place of its head
-  hop : (d : Difference) → Contains (network g (latency_of_graph g)) d → (k j : ℕ) → k < length points → j < length points
+  hop : (d : Difference ℕ) → Contains (network g (latency_of_graph g)) d → (k j : ℕ) → k < length points → j < length points
       → slice_index points k ≡ d.tail → slice_index points j ≡ d.head → Reaches (map length_of net.arcs) k j
   hop d has k j l m t h =
       let a = arc_of d has in
       let ends = All-contains (λ x. (x.tail < length points) × (x.head < length points)) net.arcs a.0 is.arcs.ends a.1 in
-      let tail = one_place points are.rising a.0.tail k ends.0 l (ap (λ (x : Difference). x.tail) a.2 ∙ sym t) in
-      let head = one_place points are.rising a.0.head j ends.1 m (ap (λ (x : Difference). x.head) a.2 ∙ sym h) in
+      let tail = one_place points are.rising a.0.tail k ends.0 l (ap (λ (x : Difference ℕ). x.tail) a.2 ∙ sym t) in
+      let head = one_place points are.rising a.0.head j ends.1 m (ap (λ (x : Difference ℕ). x.head) a.2 ∙ sym h) in
       (length_of a.0 ∷ [], (Contains-map length_of net.arcs a.0 a.1, tail, head))
 
   -- walks end to end
@@ -236,7 +240,7 @@ module _ (g : Graph) (points : List ℕ) (net : Network) (sound : IsSound g) (ar
 
   -- a live node is a point
   live_point : (v : ℕ) → is_live g v ≡ true → Contains points v
-  live_point v live = are.all v (inr (live_by_paths g (depth g) (sound_is_ranked g sound) (output_is_node g sound) v live))
+  live_point v live = are.all v (inr (live_by g sound v live))
 
   -- along a connection
   source_reaches : (c : Connection) → Contains g.connections c → is_live g c.dst.0 ≡ true → ReachesRoot c.dst.0 → ReachesRoot c.src.0
@@ -265,7 +269,7 @@ module _ (g : Graph) (points : List ℕ) (net : Network) (sound : IsSound g) (ar
   back k l =
       elim (are.each k 0 l) [
         | inl root ↦ ([], one_place points are.rising k 0 l some (root ∙ sym root_first))
-        | inr live ↦ path_reaches (output_name g) live.0 live.1 (output_is_live g (depth g) sound (sound_is_ranked g sound)) from_output (slice_index points k) live.2 k l refl
+        | inr live ↦ path_reaches (output_name g) live.0 live.1 (output_is_live g sound) from_output (slice_index points k) live.2 k l refl
       ]
     where
       from_output : ReachesRoot (output_name g)
@@ -294,7 +298,7 @@ module _ (g : Graph) (points : List ℕ) (net : Network) (sound : IsSound g) (ar
 
       go : (o : Option Node) → node_named g v ≡ o → or_zero latency_of o ≤ 2 ^ 20
       go None e = omega arith
-      go (Some n) e = few_frames n.kind (found_in (λ m. m.uid.0 == v) IsInRange g.nodes n ranges e).0.1
+      go (Some n) e = few_frames n.kind (find-all (λ m. m.uid.0 == v) IsInRange g.nodes n ranges e).0.1
 
   -- the least differences fit
   least_within : All (HasLeastWithin (2 ^ 30)) (network g (latency_of_graph g))

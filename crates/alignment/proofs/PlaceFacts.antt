@@ -19,11 +19,13 @@ use Rattle.graph_model.specs.declared.graph.Graph.{Graph}
 use Rattle.min_cost_flow.specs.Flow.{IsTight}
 use Rattle.min_cost_flow.specs.declared.network.Arc.{Arc}
 use Rattle.plan_model.specs.Alignments.{IsAlignment, IsBestAlignment, position_in, lines, total}
-use Rattle.plan_model.specs.Certified.{AreLiveNodes}
+use Rattle.plan_model.specs.Rules.{AreLiveNodes}
 use Rattle.plan_model.specs.Duality.{rooted, IsTightAt}
-use Rattle.plan_model.specs.Flows.{Difference, IsPoint, network, arc_between, least_or_zero, IsFlow}
-use Rattle.plan_model.specs.declared.plan.At.{At}
-use Rattle.plan_model.proofs.DualityLaws.{Keeps, rooted_at, keeps_all, output_is_node, least_of_optima_law}
+use Rattle.plan_model.specs.Flows.{IsPoint, network, arc_between, IsFlow}
+use Rattle.plan_model.specs.Networks.{Difference, least_or_zero}
+use Rattle.plan_model.specs.declared.alignment.At.{At}
+use Rattle.plan_model.proofs.DualityLaws.{Keeps, rooted_at, keeps_all, least_of_optima_law}
+use Rattle.graph_model.proofs.NodeFacts.{output_is_node}
 use Rattle.plan_model.proofs.CertifiedLaws.{sum_lines}
 use Rattle.plan_model.proofs.LatencyLaws.{few_frames_late}
 use Rattle.plan_model.proofs.PlaceLaws.{has_item}
@@ -34,13 +36,14 @@ use Rattle.alignment.specs.Links.{links_of, link_of}
 use Rattle.alignment.specs.Places.{ArePositions, IsTimely, places_of, line_of}
 use Rattle.alignment.specs.Carried.{carried_by}
 use Rattle.alignment.proofs.PlaceLists.{stands_at, number_at, zero_first, names_of, position_at, later_has, from_zero_is, entry_of, carried_has, carried_all, links_all, links_few, lines_same}
-use Rattle.alignment.proofs.ValueFacts.{live_is_named, ends_live, value_after, point_within, rooted_is, is_alignment, ends_at_latency}
+use Rattle.alignment.proofs.ValueFacts.{live_is_named, value_after, point_within, rooted_is, is_alignment, ends_at_latency}
+use Rattle.graph_model.proofs.LiveLaws.{ends_live}
 
 -- ---- tight potentials
 module _ (g : Graph) (points : List ℕ) (arcs : List Arc) (flow : List ℕ) (potential : List ℤ) (sound : IsSound g) (are : ArePoints g points)
     (net : AreNetworkArcs g points arcs) (units : length flow ≡ length arcs) (each : length potential ≡ length points)
     (tight : IsTight arcs flow (number_of potential)) (root : number_of potential 0 ≡ pos 0)
-    (found : (d : Difference) → Contains (network g (latency_of_graph g)) d → arc_between g (latency_of_graph g) d.tail d.head ≡ Some d) where
+    (found : (d : Difference ℕ) → Contains (network g (latency_of_graph g)) d → arc_between g (latency_of_graph g) d.tail d.head ≡ Some d) where
   -- the potential of a point, by its name
   abbrev value : ℕ → ℤ
   value v = number_of potential (number_in points v)
@@ -71,7 +74,7 @@ module _ (g : Graph) (points : List ℕ) (arcs : List Arc) (flow : List ℕ) (po
       (All-contains (λ b. Contains (network g (latency_of_graph g)) (named points b)) arcs a net.each has, ends.0, ends.1)
 
   -- along each of its differences the potential rises by at least that
-  rises_by : (d : Difference) → Contains (network g (latency_of_graph g)) d → d.least ≤ℤ (value d.head -ℤ value d.tail)
+  rises_by : (d : Difference ℕ) → Contains (network g (latency_of_graph g)) d → d.least ≤ℤ (value d.head -ℤ value d.tail)
   rises_by d has =
       let from = Contains-from_map (named points) arcs d (All-contains (Contains (map (named points) arcs)) (network g (latency_of_graph g)) d net.all has) in
       let here : slice_get arcs from.1.0 ≡ Some from.0 = slice_get-get_or arcs from.1.0 from.0 from.1.1 ∙ ap Some from.1.2 in
@@ -79,7 +82,7 @@ module _ (g : Graph) (points : List ℕ) (arcs : List Arc) (flow : List ℕ) (po
       let rises = tight.rises from.1.0 from.0 here in
       let t = value_at from.0.tail there.1 in
       let h = value_at from.0.head there.2 in
-      subst (λ (e : Difference). e.least ≤ℤ (value e.head -ℤ value e.tail)) from.2 (omega (arith, ints))
+      subst (λ (e : Difference ℕ). e.least ≤ℤ (value e.head -ℤ value e.tail)) from.2 (omega (arith, ints))
 
   -- at each place stands a point
   point_at : (k : ℕ) → k < length points → IsPoint g (slice_index points k)

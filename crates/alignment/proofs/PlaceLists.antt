@@ -14,7 +14,7 @@ use Rattle.graph_model.specs.declared.graph.Connection.{Connection}
 use Rattle.graph_model.specs.declared.graph.Graph.{Graph}
 use Rattle.min_cost_flow.specs.declared.network.Arc.{Arc}
 use Rattle.plan_model.specs.Alignments.{position_in, lines_from}
-use Rattle.plan_model.specs.declared.plan.Units.{Units}
+use Rattle.plan_model.specs.declared.flow.Units.{Units}
 use Rattle.shortest_paths.specs.Walks.{number_of, from_zero}
 use Rattle.alignment.specs.Networks.{number_in}
 use Rattle.alignment.specs.Links.{link_of, links_from}

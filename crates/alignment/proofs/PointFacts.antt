@@ -20,7 +20,8 @@ use Rattle.graph_model.specs.declared.graph.Node.{Node}
 use Rattle.graph_model.specs.declared.graph.Graph.{Graph}
 use Rattle.plan_model.specs.Flows.{IsPoint}
 use Rattle.plan_model.proofs.Distinct.{Differ, differ_permuted}
-use Rattle.plan_model.proofs.WaveLaws.{live_differ, kept, shown}
+use Rattle.plan_model.proofs.WaveLaws.{live_differ, kept}
+use Rattle.graph_model.proofs.LiveLaws.{live_by}
 use Rattle.alignment.specs.Networks.{ArePoints}
 use Rattle.alignment.proofs.ValueFacts.{live_is_named}
 
@@ -74,7 +75,7 @@ module _ (g : Graph) (sound : IsSound g) where
   }
     where
       lives : (v : ℕ) → Contains (live_nodes g) v → IsLive g v
-      lives v has = shown g sound [] v (filter_from (is_live g) (map (λ n. n.uid.0) g.nodes) v has).1
+      lives v has = live_by g sound v (filter_from (is_live g) (map (λ n. n.uid.0) g.nodes) v has).1
 
       none_is_zero : Contains (live_nodes g) 0 → ⊥
       none_is_zero has = let l = live_is_named g sound 0 (lives 0 has) in omega (arith, l)

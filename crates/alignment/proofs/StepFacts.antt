@@ -4,7 +4,7 @@ use Rattle.std.specs.Prelude.{nat_lt}
 use Rattle.std.proofs.lemmas.Int.{ints}
 use Rattle.min_cost_flow.specs.declared.network.Arc.{Arc}
 use Rattle.min_cost_flow.specs.Laws.{weighted}
-use Rattle.plan_model.specs.declared.plan.At.{At}
+use Rattle.plan_model.specs.declared.alignment.At.{At}
 use Rattle.alignment.specs.Links.{arc_from_root}
 use Rattle.std.specs.List.{range_with_len}
 use Rattle.std.proofs.lemmas.List.FromFn.{map-range_with_len_more}
@@ -12,7 +12,7 @@ use Rattle.alignment.specs.Places.{places_of}
 use Rattle.shortest_paths.specs.Walks.{number_of, from_zero}
 use Rattle.std.proofs.lemmas.List.{take_more, length-take, append_assoc, append-nil}
 use Rattle.std.proofs.lemmas.Bool.{lt-ltb}
-use Rattle.plan_model.specs.declared.plan.Units.{Units}
+use Rattle.plan_model.specs.declared.flow.Units.{Units}
 use Rattle.alignment.specs.Carried.{carried_by}
 
 -- one more place

@@ -16,42 +16,22 @@ use Rattle.graph_model.specs.declared.graph.Connection.{Connection}
 use Rattle.graph_model.specs.declared.graph.Graph.{Graph}
 use Rattle.plan_model.specs.Alignments.{IsAlignment}
 use Rattle.plan_model.specs.Duality.{rooted}
-use Rattle.plan_model.specs.Flows.{Difference, IsPoint, along, from_root, to_root, network}
-use Rattle.plan_model.proofs.DualityLaws.{rooted_at, output_is_live, output_is_node}
+use Rattle.plan_model.specs.Flows.{IsPoint, along, from_root, to_root, network}
+use Rattle.plan_model.specs.Networks.{Difference}
+use Rattle.plan_model.proofs.DualityLaws.{rooted_at}
+use Rattle.graph_model.proofs.LiveLaws.{ends_live, live_test, output_live}
+use Rattle.plan_model.proofs.ExampleTools.{listed}
 use Rattle.plan_model.proofs.Saved.{Contains-map}
 use Rattle.plan_model.proofs.ShiftLaws.{reach_least}
 
 -- ---- live nodes of a sound graph
 module _ (g : Graph) (sound : IsSound g) where
-  -- a live node is one of the nodes
-  live_is_node : (v : ℕ) → IsLive g v → Contains (map (λ n. n.uid.0) g.nodes) v
-  live_is_node v (us, path, has) =
-      All-contains (Contains (map (λ n. n.uid.0) g.nodes)) (output_name g ∷ us) v (All-from_recursion (Contains (map (λ n. n.uid.0) g.nodes)) (output_name g ∷ us) (all_in g (output_name g) us path)) has
-
   -- its name is not 0
   pub live_is_named : (v : ℕ) → IsLive g v → 1 ≤ v
   live_is_named v live =
       All-contains (λ u. 1 ≤ u) (map (λ n. n.uid.0) g.nodes) v
       (All-map (λ u. 1 ≤ u) (λ (n : Node). n.uid.0) g.nodes (All-weaker (λ n. bad_member n ≡ None) (λ n. 1 ≤ n.uid.0) (λ n e. (in_range n e).0.0) g.nodes sound.shaped.in_range))
-      (live_is_node v live)
-
-  -- the test finds it live
-  pub live_test : (v : ℕ) → IsLive g v → is_live g v ≡ true
-  live_test v live = live_by_test g (depth g) (sound_is_ranked g sound) v live
-
-  -- and what it finds live is live
-  is_live_by : (v : ℕ) → is_live g v ≡ true → IsLive g v
-  is_live_by v is = live_by_paths g (depth g) (sound_is_ranked g sound) (output_is_node g sound) v is
-
-  -- the output node is live
-  pub output_live : IsLive g (output_name g)
-  output_live = is_live_by (output_name g) (output_is_live g (depth g) sound (sound_is_ranked g sound))
-
-  -- both ends of a live connection are live
-  pub ends_live : (c : Connection) → Contains (live_connections g) c → IsLive g c.src.0 × IsLive g c.dst.0
-  ends_live c has =
-      let kept = filter_from (λ d. is_live g d.dst.0) g.connections c has in
-      (is_live_by c.src.0 (live_source g (depth g) (sound_is_ranked g sound) c kept.0 kept.1), is_live_by c.dst.0 kept.1)
+      (listed g v live)
 
   -- what does not fall along live connections is at most its value at the end of a path
   highest_last : (f : ℕ → ℤ) → ((c : Connection) → Contains (live_connections g) c → f c.src.0 ≤ℤ f c.dst.0)
@@ -80,17 +60,17 @@ module _ (g : Graph) (sound : IsSound g) where
   from_root_there v live =
       Contains-append_right (map (along g) (live_connections g)) _ (from_root v)
       (Contains-append_left (map from_root (live_nodes g)) _ (from_root v)
-      (Contains-map from_root (live_nodes g) v (filter_has (is_live g) (map (λ n. n.uid.0) g.nodes) v (live_is_node v live) (live_test v live))))
+      (Contains-map from_root (live_nodes g) v (filter_has (is_live g) (map (λ n. n.uid.0) g.nodes) v (listed g v live) (live_test g sound v live))))
 
   -- those to the root, from a live input node and from the output node
-  to_root_there : (d : Difference) → Contains (to_root g (latency_of_graph g)) d → Contains (network g (latency_of_graph g)) d
+  to_root_there : (d : Difference ℕ) → Contains (to_root g (latency_of_graph g)) d → Contains (network g (latency_of_graph g)) d
   to_root_there d has = Contains-append_right (map (along g) (live_connections g)) _ d (Contains-append_right (map from_root (live_nodes g)) _ d has)
 
   pub input_there : IsLive g (input_name g) → Contains (network g (latency_of_graph g)) (record { tail = input_name g; head = 0; least = pos 0 })
   input_there live =
       to_root_there (record { tail = input_name g; head = 0; least = pos 0 })
       (Contains-append_left (cond (is_live g (input_name g)) (record { tail = input_name g; head = 0; least = pos 0 } ∷ []) []) _ (record { tail = input_name g; head = 0; least = pos 0 })
-      (rw (live_test (input_name g) live) (0, omega arith, refl)))
+      (rw (live_test g sound (input_name g) live) (0, omega arith, refl)))
 
   pub output_there : Contains (network g (latency_of_graph g)) (record { tail = output_name g; head = 0; least = neg_ℤ (pos (latency_of_graph g)) })
   output_there =
@@ -100,7 +80,7 @@ module _ (g : Graph) (sound : IsSound g) where
 
 -- ---- values that keep the differences
 module _ (g : Graph) (sound : IsSound g) (value : ℕ → ℤ) (root : value 0 ≡ pos 0)
-    (rises : (d : Difference) → Contains (network g (latency_of_graph g)) d → d.least ≤ℤ (value d.head -ℤ value d.tail)) where
+    (rises : (d : Difference ℕ) → Contains (network g (latency_of_graph g)) d → d.least ≤ℤ (value d.head -ℤ value d.tail)) where
   -- along a live connection they rise by the latency of its source
   pub value_after : (c : Connection) → Contains (live_connections g) c → (value c.src.0 +ℤ pos (latency_at g c.src.0)) ≤ℤ value c.dst.0
   value_after c has = let r = rises (along g c) (along_there g sound c has) in omega (arith, ints)

@@ -1,7 +1,7 @@
 -- A flow by the names of its points.
 use Rattle.std.specs.Prelude.{ℕ, nat_lt, List, [], ◌∷◌, slice_index, if◌then◌else◌}
 use Rattle.min_cost_flow.specs.declared.network.Arc.{Arc}
-use Rattle.plan_model.specs.declared.plan.Units.{Units}
+use Rattle.plan_model.specs.declared.flow.Units.{Units}
 
 -- the arcs that carry units, in their order
 abbrev pub carried_by : List ℕ → List Arc → List ℕ → List Units

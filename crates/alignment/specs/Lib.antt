@@ -2,4 +2,3 @@ pub mod Networks
 pub mod Links
 pub mod Places
 pub mod Carried
-pub mod Laws

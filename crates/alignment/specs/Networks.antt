@@ -4,7 +4,8 @@ use Rattle.std.specs.List.{All, Contains, position_or_len}
 use Rattle.std.specs.List.Sorted.{IsStrictlyIncreasing}
 use Rattle.graph_model.specs.Paths.{latency_of_graph}
 use Rattle.graph_model.specs.declared.graph.Graph.{Graph}
-use Rattle.plan_model.specs.Flows.{Difference, IsPoint, network, need_of_point}
+use Rattle.plan_model.specs.Flows.{IsPoint, network, need_of_point}
+use Rattle.plan_model.specs.Networks.{Difference}
 use Rattle.plan_model.specs.Pairs.{ComesBefore}
 use Rattle.min_cost_flow.specs.declared.network.Arc.{Arc}
 use Rattle.min_cost_flow.specs.declared.network.Network.{Network}
@@ -21,7 +22,7 @@ abbrev pub number_in : List ℕ → ℕ → ℕ
 number_in points v = position_or_len (λ u. u == v) points
 
 -- an arc, by the names of its ends
-abbrev pub named : List ℕ → Arc → Difference
+abbrev pub named : List ℕ → Arc → Difference ℕ
 named points a = record { tail = slice_index points a.tail; head = slice_index points a.head; least = a.least }
 
 -- exactly the difference constraints of the graph's network, each once, ascending by tail and then by head

@@ -2,8 +2,8 @@
 use Rattle.std.specs.Prelude.{ℕ, ◌<◌, ◌^◌, ℤ, pos, ◌+ℤ◌, ◌-ℤ◌, ◌≤ℤ◌, List, [], ◌∷◌, length}
 use Rattle.std.specs.List.{All}
 use Rattle.shortest_paths.specs.Walks.{number_of, from_zero}
-use Rattle.plan_model.specs.declared.plan.At.{At}
-use Rattle.plan_model.specs.declared.plan.LineAt.{LineAt}
+use Rattle.plan_model.specs.declared.alignment.At.{At}
+use Rattle.plan_model.specs.declared.alignment.LineAt.{LineAt}
 use Rattle.alignment.specs.declared.links.Link.{Link}
 
 -- potentials that are positions: from 0 on, and none beyond 2 ^ 26

@@ -19,7 +19,6 @@ ghost use Rattle.plan_model.specs.Results.{IsAligned};
 
 mod carried;
 mod ends;
-pub mod laws;
 mod links;
 mod needs;
 mod network;

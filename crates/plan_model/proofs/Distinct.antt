@@ -1,4 +1,4 @@
--- Lists of numbers that differ: parts, order, and that two of them with the same entries are permutations of each other.
+-- Lists of numbers that differ: parts, order, and that two with the same entries are permutations of each other.
 use Rattle.std.proofs.Common.{◌≡◌, ℕ, suc, ◌<◌, ◌⊎◌, eqb, Bool, true, false, cond, List, [], ◌∷◌, ◌++◌, inl, inr, ⊎_elim, refl, ap, sym, ◌∙◌, subst, arith}
 use Rattle.std.specs.Prelude.{AllPairs}
 use Rattle.std.specs.List.{AllByRecursion, Contains, IsDistinct, filter}

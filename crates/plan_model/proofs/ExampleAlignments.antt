@@ -139,7 +139,8 @@ late_is_best = record { alignment = late_is; latency = refl; least_total = least
         let d : q 3 + 5 ≤ q 2 = al.after 1 (joined 3 0 2 0) (omega arith) in
         All-contains (λ w. late w ≤ q w) (1 ∷ 2 ∷ 3 ∷ 4 ∷ []) v (All-from_recursion (λ w. late w ≤ q w) (1 ∷ 2 ∷ 3 ∷ 4 ∷ []) (omega arith, (omega arith, (omega arith, (omega arith, tt))))) (listed fan_out v live)
 
--- two gains in a row beside an insert of 5: wherever in the row the delay stands, the total is 5, and the gains stand earliest where it comes last
+-- two gains in a row beside an insert of 5: wherever in the row the delay stands, the total is 5, and the gains stand
+-- earliest where it comes last
 unfoldable pub in_a_row : Graph
 in_a_row = record {
   nodes = node 1 (Input 1) ∷ node 2 (Output 1) ∷ node 3 (Gain 1 (pos 65536)) ∷ node 4 (Gain 1 (pos 65536)) ∷ node 5 (Insert 1 5) ∷ [];

@@ -23,7 +23,8 @@ is_home : (h : Home) (x : Port) → port h ≡ x → is_home_of x.uid.0 x.channe
 is_home h x same =
     and_both _ _ (ap (λ (p : Port). p.uid.0 == x.uid.0) same ∙ same_name x.uid.0) (ap (λ (p : Port). p.channel == x.channel) same ∙ same_name x.channel)
 
-finds_home : (homes : List Home) (x : Port) → Contains (ports_of homes) x → (h : Home) × Contains homes h × (find (is_home_of x.uid.0 x.channel) homes ≡ Some h)
+finds_home : (homes : List Home) (x : Port) → Contains (ports_of homes) x
+    → (h : Home) × Contains homes h × (find (is_home_of x.uid.0 x.channel) homes ≡ Some h)
 finds_home [] x has = let l = has.1 in absurd (omega arith)
 finds_home (h ∷ homes) x has = go (is_home_of x.uid.0 x.channel h) refl (first_or_later (port h) x (ports_of homes) has) (finds_home homes x)
   where
@@ -34,7 +35,8 @@ finds_home (h ∷ homes) x has = go (is_home_of x.uid.0 x.channel h) refl (first
     go false e (inl same) rest = let t = is_home h x same in absurd (cc)
     go false e (inr there) rest = let r = rest there in (r.0, at_tail h r.0 homes r.1, r.2)
 
-found_home : (homes : List Home) (x : Port) (h : Home) → find (is_home_of x.uid.0 x.channel) homes ≡ Some h → Contains homes h × (port h ≡ x)
+found_home : (homes : List Home) (x : Port) (h : Home) → find (is_home_of x.uid.0 x.channel) homes ≡ Some h
+    → Contains homes h × (port h ≡ x)
 found_home [] x h e = absurd (cc)
 found_home (i ∷ homes) x h e = go (is_home_of x.uid.0 x.channel i) refl (found_home homes x h) e
   where
@@ -64,7 +66,8 @@ have_buffers g plan c k d l =
     (found.0.buffer, ap buffer_at found.2, All-contains (λ h. h.buffer < plan.channels) plan.homes found.0 assigned.below found.1)
 
 -- ---- and no two that interfere the same
-lives_beside : (f : Port → Life) (homes : List Home) (h : Home) → Contains homes h → Contains (zip (map f (ports_of homes)) homes) (f (port h), h)
+lives_beside : (f : Port → Life) (homes : List Home) (h : Home) → Contains homes h
+    → Contains (zip (map f (ports_of homes)) homes) (f (port h), h)
 lives_beside f [] h has = let l = has.1 in absurd (omega arith)
 lives_beside f (i ∷ homes) h has =
     elim (first_or_later i h homes has) [
@@ -73,7 +76,8 @@ lives_beside f (i ∷ homes) h has =
     ]
 
 -- whatever lives the values have
-pub apart_by : (f : Port → Life) (homes : List Home) (channels : ℕ) → IsAssignment (map f (ports_of homes)) homes channels → (x y : Port) (b : ℕ)
+pub apart_by : (f : Port → Life) (homes : List Home) (channels : ℕ) → IsAssignment (map f (ports_of homes)) homes channels
+    → (x y : Port) (b : ℕ)
     → buffer_of homes x.uid.0 x.channel ≡ Some b → buffer_of homes y.uid.0 y.channel ≡ Some b → (x ≡ y) ⊎ MayShare (f x) (f y)
 apart_by f homes channels a x y b ex ey =
     let hx = home_with (find (is_home_of x.uid.0 x.channel) homes) b ex in

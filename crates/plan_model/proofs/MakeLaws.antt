@@ -37,7 +37,8 @@ homes_are f same (x ∷ ports) (y ∷ homes) h =
     λ i. record { uid = u i; channel = c i } ∷ rest i
 
 -- beside four rules that each version of the plan has of its own
-pub parts_hold : (g : Graph) (parts : Parts) (lines arcs need bound : Type 0) → IsSound g → AreLiveNodes g (map (λ a. a.uid.0) parts.at) → IsAlignment g (position_in parts.at)
+pub parts_hold : (g : Graph) (parts : Parts) (lines arcs need bound : Type 0) → IsSound g
+    → AreLiveNodes g (map (λ a. a.uid.0) parts.at) → IsAlignment g (position_in parts.at)
     → position_in parts.at (output_name g) ≡ latency_of_graph g → parts.latency ≡ latency_of_graph g → lines → parts.sum ≡ parts.total → IsPrintedPath g parts.path → arcs → need → bound
     → parts.total ≡ parts.bound → IsSchedule g parts.waves → AreValues g (ports_of parts.homes) → IsAssignment parts.lives parts.homes parts.channels
     → IsPeak parts.lives (length parts.waves) parts.channels parts.peak → AllHold (HoldsBy g parts lines arcs need bound)

@@ -37,7 +37,8 @@ map_same : {X : Type 0} (f h : ℕ → X) (vs : List ℕ) → AllByRecursion (λ
 map_same f h [] same = refl
 map_same f h (v ∷ vs) same = λ i. same.0 i ∷ map_same f h vs same.1 i
 
-as_named : (at : List Position) → AllPairs (λ u v. u < v) (map (λ a. a.uid.0) at) → at ≡ map (stands (position_in at)) (map (λ a. a.uid.0) at)
+as_named : (at : List Position) → AllPairs (λ u v. u < v) (map (λ a. a.uid.0) at)
+    → at ≡ map (stands (position_in at)) (map (λ a. a.uid.0) at)
 as_named [] rising = refl
 as_named (a ∷ at) rising =
     let first : stands (position_in (a ∷ at)) a.uid.0 ≡ a = rw (same_name a.uid.0) refl in
@@ -48,7 +49,8 @@ as_named (a ∷ at) rising =
     (λ i. sym first i ∷ (as_named at (λ i j d less l. rising (suc i) (suc j) d (omega arith) (omega arith)) ∙ map_same _ _ (map (λ b. b.uid.0) at) later) i)
 
 -- the list of the positions of the best alignment, by whatever cost
-pub places_once : (cost : (ℕ → ℕ) → ℕ) (g : Graph) (at other : List Position) → AreLiveNodes g (map (λ a. a.uid.0) at) → AreLiveNodes g (map (λ a. a.uid.0) other)
+pub places_once : (cost : (ℕ → ℕ) → ℕ) (g : Graph) (at other : List Position) → AreLiveNodes g (map (λ a. a.uid.0) at)
+    → AreLiveNodes g (map (λ a. a.uid.0) other)
     → IsBestBy cost g (position_in at) → IsBestBy cost g (position_in other) → at ≡ other
 places_once cost g at other nodes others a b =
     let names : map (λ (x : Position). x.uid.0) at ≡ map (λ (x : Position). x.uid.0) other = live_nodes_are_unique g _ _ nodes others in

@@ -73,7 +73,8 @@ names_all : (vs : List ℕ) → flat_map names (map wave_of_one vs) ≡ vs
 names_all [] = refl
 names_all (v ∷ vs) = ap (λ ws. v ∷ ws) (names_all vs)
 
-one_at : (vs : List ℕ) (k : ℕ) (w : Wave) → slice_get (map wave_of_one vs) k ≡ Some w → (v : ℕ) × (slice_get vs k ≡ Some v) × (wave_of_one v ≡ w)
+one_at : (vs : List ℕ) (k : ℕ) (w : Wave) → slice_get (map wave_of_one vs) k ≡ Some w
+    → (v : ℕ) × (slice_get vs k ≡ Some v) × (wave_of_one v ≡ w)
 one_at [] k w e = absurd (cc)
 one_at (v ∷ vs) zero w e = let same : wave_of_one v ≡ w = cc in (v, refl, same)
 one_at (v ∷ vs) (suc k) w e = one_at vs k w e
@@ -148,7 +149,8 @@ module _ (g : Graph) (sound : IsSound g) (os : List ℕ) (order : IsOrder g os) 
       new : Contains (flat_map names (take k ones)) v → ⊥
       new has = next.fresh (contains-stands os at.0 v (omega (arith, at.1)) (filter_from (is_live g) (take at.0 os) v (subst (λ ws. Contains ws v) before has)).0)
 
-      ready : (c : Connection) → Contains (live_connections g) c → Contains (v ∷ []) c.dst.0 → Contains (flat_map names (take k ones)) c.src.0
+      ready : (c : Connection) → Contains (live_connections g) c → Contains (v ∷ []) c.dst.0
+          → Contains (flat_map names (take k ones)) c.src.0
       ready c has reads =
           let dst : v ≡ c.dst.0 = elim (first_or_later v c.dst.0 [] reads) [ inl same ↦ same | inr there ↦ (let l = there.1 in absurd (omega arith)) ] in
           let live = live_test g sound c.src.0 (ends_live g sound c has).0 in
@@ -187,7 +189,8 @@ one_depth g v m n a b =
 
 module _ (g : Graph) (sound : IsSound g) where
   -- a node of a wave is live, and the wave is the first that has it
-  in_place : (ws : List Wave) → IsSchedule g ws → (k : ℕ) (w : Wave) (v : ℕ) → slice_get ws k ≡ Some w → Contains (names w) v → IsLive g v × (wave_of ws v ≡ k)
+  in_place : (ws : List Wave) → IsSchedule g ws → (k : ℕ) (w : Wave) (v : ℕ) → slice_get ws k ≡ Some w → Contains (names w) v
+      → IsLive g v × (wave_of ws v ≡ k)
   in_place ws s k w v e has =
       let next = ((waves_by_entries g ws sound).1 s k).next w e in
       let live = All-contains (IsLive g) (names w) v next.live has in
@@ -203,7 +206,8 @@ module _ (g : Graph) (sound : IsSound g) where
 
   module _ (ws xs : List Wave) (a : IsByWaves g ws) (b : IsByWaves g xs) where
     -- a node of a wave stands in the other schedule's wave of that index
-    same_wave : (k : ℕ) (w : Wave) (v : ℕ) → slice_get ws k ≡ Some w → Contains (names w) v → (x : Wave) × (slice_get xs k ≡ Some x) × Contains (names x) v
+    same_wave : (k : ℕ) (w : Wave) (v : ℕ) → slice_get ws k ≡ Some w → Contains (names w) v
+        → (x : Wave) × (slice_get xs k ≡ Some x) × Contains (names x) v
     same_wave k w v e has =
         let p = in_place ws a.schedule k w v e has in
         let d = one_depth g v (wave_of ws v) (wave_of xs v) (a.deepest v p.0) (b.deepest v p.0) in
@@ -254,7 +258,8 @@ module _ (g : Graph) (sound : IsSound g) where
           let uids = uids_same w.nodes x.nodes one in
           λ i. record { nodes = uids i }
         where
-          go_over : (ws xs : List Wave) → IsByWaves g ws → IsByWaves g xs → (k : ℕ) (w x : Wave) (v : ℕ) → slice_get ws k ≡ Some w → slice_get xs k ≡ Some x
+          go_over : (ws xs : List Wave) → IsByWaves g ws → IsByWaves g xs → (k : ℕ) (w x : Wave) (v : ℕ) → slice_get ws k ≡ Some w
+              → slice_get xs k ≡ Some x
               → Contains (names w) v → Contains (names x) v
           go_over ws xs a b k w x v e f has =
               let s = same_wave ws xs a b k w v e has in

@@ -56,7 +56,8 @@ one_way_alive : (b d s : ℕ) → b < d → cond {A = ℕ} (nat_lt b s && nat_lt
 one_way_alive b d s l = grind (arith, nat_tests)
 
 -- a wave needs at most a buffer for each value
-alive_below : (s : ℕ) (lives : List Life) → AllByRecursion (λ x. x.born < x.dies) lives → count_by (is_through s) lives + count_by (is_dying s) lives + count_by (is_born s) lives ≤ length lives
+alive_below : (s : ℕ) (lives : List Life) → AllByRecursion (λ x. x.born < x.dies) lives
+    → count_by (is_through s) lives + count_by (is_dying s) lives + count_by (is_born s) lives ≤ length lives
 alive_below s [] h = omega arith
 alive_below s (x ∷ lives) h =
     let ih = alive_below s lives h.1 in
@@ -72,7 +73,8 @@ one_more : (x : Port) (ys : List Port) → length (with_port x ys) ≤ suc (leng
 one_more x [] = omega arith
 one_more x (y ∷ ys) = go (is_before x y) (is_before y x) (one_more x ys)
   where
-    go : (b d : Bool) → length (with_port x ys) ≤ suc (length ys) → length (cond b (x ∷ y ∷ ys) (cond d (y ∷ with_port x ys) (y ∷ ys))) ≤ suc (length (y ∷ ys))
+    go : (b d : Bool) → length (with_port x ys) ≤ suc (length ys)
+        → length (cond b (x ∷ y ∷ ys) (cond d (y ∷ with_port x ys) (y ∷ ys))) ≤ suc (length (y ∷ ys))
     go true d l = omega arith
     go false true l = omega arith
     go false false l = omega arith

@@ -17,7 +17,8 @@ pub enum Rule {
     Lines,
     /// The delays sum up to `total`. Place: `total`.
     Total,
-    /// `path` is a path into the output node. Place: the index of the first entry that is no node or leads on to no next one.
+    /// `path` is a path into the output node. Place: the index of the first entry that is no node or leads on to no
+    /// next one.
     Path,
     /// The latencies of the path sum up to `latency`. Place: their sum.
     Longest,
@@ -33,7 +34,8 @@ pub enum Rule {
     Waves,
     /// `homes` are for exactly the values, ascending. Place: the index of the first entry that differs.
     Homes,
-    /// No two values that interfere have one buffer, and all are below `channels`. Place: the index of the first bad home.
+    /// No two values that interfere have one buffer, and all are below `channels`. Place: the index of the first bad
+    /// home.
     Channels,
     /// `peak` is the first wave that needs `channels`. Place: `peak`.
     Peak,

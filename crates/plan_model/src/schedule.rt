@@ -17,7 +17,8 @@ pub struct Wave {
 pub enum Mode {
     /// One node a wave: again and again the least uid whose sources have all been taken.
     OneByOne,
-    /// Each node as early as its sources allow (a level schedule): in the wave whose index is the greatest number of connections on a path into it.
+    /// Each node as early as its sources allow (a level schedule): in the wave whose index is the greatest number of
+    /// connections on a path into it.
     Waves,
 }
 

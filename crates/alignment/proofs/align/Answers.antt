@@ -7,7 +7,8 @@ use Rattle.std.proofs.lemmas.List.{length-map}
 use Rattle.shortest_paths.specs.Walks.{IsWithin}
 use Rattle.min_cost_flow.specs.Laws.{weighted}
 use Rattle.min_cost_flow.specs.declared.network.Arc.{Arc}
-use Rattle.plan_model.specs.declared.plan.LineAt.{LineAt}
+use Rattle.plan_model.specs.Alignments.{total}
+use Rattle.plan_model.specs.declared.alignment.LineAt.{LineAt}
 use Rattle.alignment.specs.Carried.{carried_by}
 use Rattle.alignment.specs.Links.{links_of}
 use Rattle.alignment.specs.Networks.{ArePoints}
@@ -15,7 +16,7 @@ use Rattle.alignment.specs.Places.{ArePositions, line_of, places_of}
 use Rattle.alignment.specs.declared.links.Link.{Link}
 use Rattle.alignment.proofs.NetworkFacts.{network_is_one}
 use Rattle.alignment.proofs.AlignFacts.{solution, positions, timely, few_links, short_delays, leasts, bound_is, is_aligned_as}
-use Rattle.alignment.proofs.OneFacts.{no_earlier}
+use Rattle.plan_model.proofs.BestLaws.{no_earlier}
 use Rattle.alignment.proofs.align.Goals as goal
 
 pub solve-requires : goal.solve-requires
@@ -128,4 +129,4 @@ returns-clause-aligned c =
     (c.in_ok-carried.ensures ∙ (λ i. carried_by (c.deref-6.ensures.value i) (c.as_slice-arcs.ensures i) (c.as_slice-flow.ensures i))) whole
 
 pub returns-clause-least_latency : goal.returns-clause-least_latency
-returns-clause-least_latency c = λ q al. no_earlier c.args.graph.now _ q c.in_ok-points.ensures.sound (returns-clause-aligned c).best al
+returns-clause-least_latency c = λ q al. no_earlier (total c.args.graph.now) c.args.graph.now _ q c.in_ok-points.ensures.sound (returns-clause-aligned c).best al

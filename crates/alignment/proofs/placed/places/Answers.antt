@@ -1,5 +1,5 @@
 use Rattle.std.proofs.Common.{◌∙◌, ◌++◌, ◌∷◌, [], ap, arith, slice_index, ℕ}
-use Rattle.plan_model.specs.declared.plan.At.{At}
+use Rattle.plan_model.specs.declared.alignment.At.{At}
 use Rattle.alignment.proofs.StepFacts.{places-more}
 use Rattle.alignment.proofs.placed.places.Goals as goal
 

@@ -1,5 +1,5 @@
 use Rattle.std.proofs.Common.{◌≡◌, ◌≤◌, ◌*◌, ◌^◌, take, sum_by}
-use Rattle.plan_model.specs.declared.plan.LineAt.{LineAt}
+use Rattle.plan_model.specs.declared.alignment.LineAt.{LineAt}
 use Rattle.alignment.proofs.placed.total.Given as goal
 
 -- the sum so far
