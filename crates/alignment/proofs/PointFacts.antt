@@ -54,15 +54,6 @@ not_there xs v r e rising result is (k, lt, at) =
         (λ o. ⊎_elim (λ lt. let less = AllPairs-from_increasing xs rising i j 0 lt l in omega (arith, less)) (λ lt. absurd (omega arith)) o)
         (cases_order i j)
 
--- a copy of what was found
-pub copied_some : {X : Type 0} (o : Option (Bor X)) (x : Option X) → option_copied o ≡ x → IsSome x → IsSome o
-copied_some None x e some = absurd (cc)
-copied_some (Some b) x e some = refl
-
--- the one that passes is found
-pub one_found : {X : Type 0} (p : X → Bool) (xs : List X) → count_by p xs ≡ 1 → IsSome (find p xs)
-one_found p xs one = let found = find_one p xs one in ap is_some found.3
-
 module _ (g : Graph) (sound : IsSound g) where
   -- the root and the live nodes, sorted, are the points
   pub points_are : (ys : List ℕ) → IsPermutation (0 ∷ live_nodes g) ys → IsSorted nat_cmp ys → ArePoints g ys

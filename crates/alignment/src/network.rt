@@ -2,11 +2,11 @@
 
 ghost use Rattle.std.specs.Prelude.{◌≡◌, ◌<◌, ◌≤◌, ◌-◌, ◌^◌, ◌++◌, length, map, IfOk, OnOk};
 ghost use Rattle.std.specs.List.{range_with_len};
+ghost use Rattle.graph_model.specs.Graphs.{input_name as input_name_of, output_name as output_name_of};
 ghost use Rattle.graph_model.specs.Sound.{IsSound};
 ghost use Rattle.alignment.specs.Networks.{ArePoints, AreNetworkArcs, IsNetworkOf};
 ghost use Rattle.alignment.specs.Links.{links_of, arc_along, arc_from_root, arcs_to_root};
 
-use crate::ends::{input_name, latency, output_name};
 use crate::links::Link;
 use crate::needs::needs;
 use crate::points::point_of;
@@ -45,6 +45,20 @@ fn add_from_root(arcs: &mut Vec<Arc>, points: usize) -> Result<(), AllocError>
     Ok(())
 }
 
+/// The uid of the input node.
+fn input_name(graph: &Checked) -> u32
+    ensures { result ≡ input_name_of graph.now }
+{
+    graph.uid(graph.input()).0
+}
+
+/// The uid of the output node.
+fn output_name(graph: &Checked) -> u32
+    ensures { result ≡ output_name_of graph.now }
+{
+    graph.uid(graph.output()).0
+}
+
 /// An arc to the root from a live input node, which keeps it at 0, and one from the output node, which keeps it at the
 /// graph's latency.
 fn add_to_root(arcs: &mut Vec<Arc>, graph: &Checked, points: &[u32]) -> Result<(), AllocError>
@@ -62,7 +76,7 @@ fn add_to_root(arcs: &mut Vec<Arc>, graph: &Checked, points: &[u32]) -> Result<(
     arcs.push(Arc {
         tail: point_of(points, output_name(graph)).unwrap(),
         head: 0,
-        least: -(latency(graph) as i64),
+        least: -(graph.latency() as i64),
     })?;
     Ok(())
 }

@@ -97,6 +97,14 @@ impl Checked {
         &self.bounds.as_slice()[node as usize]
     }
 
+    /// The uid of a node.
+    pub fn uid(&self, node: u32) -> Uid
+        requires { node < length self.now.nodes }
+        ensures { result.0 ≡ uid_at self.now node }
+    {
+        self.graph.nodes.as_slice()[node as usize].uid
+    }
+
     /// The index of the input node.
     pub fn input(&self) -> u32
         ensures within { result < length self.now.nodes }
