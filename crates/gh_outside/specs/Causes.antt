@@ -1,6 +1,15 @@
 -- Why a call of the outside failed.
 use Rattle.std.specs.Prelude.{◌≡◌, ℕ, ◌+◌, ◌-◌, ◌^◌, ◌≤◌, ◌⊎◌, min, Result, OnOk, OnErr, IsErr}
 
+-- A count is a number of 64 bits.
+abbrev pub IsCount : ℕ → Type 0
+IsCount n = n ≤ 2 ^ 64 - 1
+
+-- How many reads and how many writes have failed: all that is told of a folder of the system.
+pub record FaultCounts : Type 0 where
+  pub read_faults : ℕ
+  pub write_faults : ℕ
+
 -- One more, up to the last number of 64 bits.
 abbrev pub one_more : ℕ → ℕ
 one_more n = min (n + 1) (2 ^ 64 - 1)
@@ -12,6 +21,8 @@ Rose before now = one_more before ≤ now
 -- The count of the faults of this kind of call, and the other count, before and after a call that may miss.
 pub record HasCause {T E : Type 0} (miss : Type 0) (before now other_before other_now : ℕ) (result : Result T E) : Type 0 where
   pub later : before ≤ now
+  pub small : IsCount now
+  pub other_small : IsCount other_now
   pub other_stays : other_now ≡ other_before
   -- The call fails only where the count rose, or at a miss.
   pub failed : OnErr result (miss ⊎ Rose before now)

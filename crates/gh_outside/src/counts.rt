@@ -1,7 +1,7 @@
 //! The numbers of calls and the counts of faults.
 
 ghost use Rattle.std.specs.Prelude.{◌≡◌, ◌≤◌, ◌↔◌, IsTrue, Contains};
-ghost use Rattle.gh_outside.specs.Causes.{one_more};
+ghost use Rattle.gh_outside.specs.Causes.{one_more, IsCount};
 
 use crate::folder::Failed;
 use graph_model::List;
@@ -10,6 +10,7 @@ use graph_model::List;
 pub(crate) fn count_fault(count: &mut u64) -> Failed
     ensures counted { count.new ≡ one_more count.old }
     ensures later { count.old ≤ count.new }
+    ensures small { IsCount count.new }
 {
     *count = count.saturating_add(1);
     Failed

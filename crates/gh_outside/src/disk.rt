@@ -6,6 +6,7 @@ use crate::counts::count_fault;
 use crate::folder::{Failed, Folder};
 use std::fs::{self, OpenOptions};
 use std::io::{self, ErrorKind, Read, Seek, SeekFrom, Write};
+use std::marker::Model;
 use std::rt::Files;
 
 /// The files of the system, by their paths. It does not tell what they hold.
@@ -17,6 +18,16 @@ pub struct DiskFolder<'a, H: Files> {
     rt: &'a H,
     read_faults: u64,
     write_faults: u64,
+}
+
+impl<'a, H: Files> Model for DiskFolder<'a, H> {
+    ghost use Rattle.gh_outside.specs.Causes.{FaultCounts, IsCount};
+
+    ghost Value = { FaultCounts };
+
+    ghost view = { λ a. record { read_faults = a.read_faults; write_faults = a.write_faults } };
+
+    ghost invariant = { λ a. IsCount a.read_faults × IsCount a.write_faults };
 }
 
 impl<'a, H: Files> DiskFolder<'a, H> {

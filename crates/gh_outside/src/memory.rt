@@ -31,6 +31,7 @@ pub struct MemoryFolder {
 }
 
 impl Model for MemoryFolder {
+    ghost use Rattle.gh_outside.specs.Causes.{IsCount};
     ghost use Rattle.gh_outside.specs.Memory.{MemoryFiles};
 
     ghost Value = { MemoryFiles };
@@ -42,6 +43,8 @@ impl Model for MemoryFolder {
       read_faults = a.read_faults;
       write_faults = a.write_faults;
     } };
+
+    ghost invariant = { λ a. IsCount a.read_faults × IsCount a.write_faults };
 }
 
 impl MemoryFolder {
@@ -308,8 +311,9 @@ mod tests {
         assert_eq!(rt; folder.length("a"), Err(Failed));
         assert_eq!(rt; folder.read_exact_at("a", 0, &mut read), Err(Failed));
         assert_eq!(rt; folder.read_exact_at("a", 0, &mut read), Ok(()));
-        assert_eq!(rt; folder.append("a", b"de"), Err(Failed));
-        assert_eq!(rt; folder.file("a"), Some(b"abcd".as_slice()));
+        folder.make_room("a", 8)?;
+        assert_eq!(rt; folder.append("a", b"defgh"), Err(Failed));
+        assert_eq!(rt; folder.file("a"), Some(b"abcde".as_slice()));
         assert_eq!(rt; (folder.read_faults, folder.write_faults), (2, 1));
         Ok(())
     }

@@ -26,6 +26,7 @@ pub struct MemorySink {
 
 impl Model for MemorySink {
     ghost use Rattle.std.specs.Prelude.{◌≤◌, vec_capacity, vec_len};
+    ghost use Rattle.gh_outside.specs.Causes.{IsCount};
     ghost use Rattle.gh_outside.specs.Memory.{MemoryBytes};
 
     ghost Value = { MemoryBytes };
@@ -38,7 +39,8 @@ impl Model for MemorySink {
       faults = a.faults;
     } };
 
-    ghost invariant = { λ a. (a.room ≤ vec_capacity a.bytes) × (vec_len a.bytes ≤ a.room) };
+    ghost invariant = { λ a. (a.room ≤ vec_capacity a.bytes) × (vec_len a.bytes ≤ a.room)
+        × IsCount a.faults };
 }
 
 impl MemorySink {

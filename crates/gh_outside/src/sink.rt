@@ -8,6 +8,7 @@ use crate::counts::count_fault;
 use crate::disk::write_whole;
 use crate::folder::Failed;
 use std::io::Write;
+use std::marker::Model;
 
 /// Something that bytes are added to, and the count of the calls that failed.
 ///
@@ -39,6 +40,17 @@ pub struct WriterSink<W> {
     faults: u64,
 }
 
+impl<W> Model for WriterSink<W> {
+    ghost use Rattle.std.specs.Prelude.{ℕ};
+    ghost use Rattle.gh_outside.specs.Causes.{IsCount};
+
+    ghost Value = { ℕ };
+
+    ghost view = { λ a. a.faults };
+
+    ghost invariant = { λ a. IsCount a.faults };
+}
+
 impl<W: Write> WriterSink<W> {
     /// Takes the writer, with no fault counted yet.
     pub fn new(writer: W) -> WriterSink<W>
@@ -51,7 +63,7 @@ impl<W: Write> WriterSink<W> {
 impl<W: Write> Sink for WriterSink<W> {
     ghost bytes = { λ _. None };
 
-    ghost faults = { λ s. s.faults };
+    ghost faults = { λ s. s };
 
     /// Writes all the bytes and flushes the writer. A writer that takes no more bytes is a fault.
     fn put(&mut self, piece: &[u8]) -> Result<(), Failed> {
@@ -65,6 +77,16 @@ impl<W: Write> Sink for WriterSink<W> {
 #[cfg(test)]
 mod tests {
     use super::*;
+    use std::io::BufWriter;
+    use std::test::Fail;
+
+    #[test]
+    fn a_put_flushes_the_writer(rt: HostRuntime) -> Result<(), Fail> {
+        let mut sink = WriterSink::new(BufWriter::new(rt.alloc(), Vec::new(rt.alloc()))?);
+        assert_eq!(rt; sink.put(b"abc"), Ok(()));
+        assert_eq!(rt; sink.writer.get_ref().as_slice(), b"abc".as_slice());
+        Ok(())
+    }
 
     #[test]
     fn a_writer_that_is_full_is_a_fault(rt: HostRuntime) {

@@ -12,7 +12,7 @@ use graph_model::{List, Member, Refused};
 use serde_json::{Number, Value};
 use std::alloc::Global;
 
-// The whole number that a value is, if it is one.
+/// The whole number that a value is, if it is one.
 fn whole(value: Option<&Value>) -> Option<i128>
     ensures { result ≡ option_and_then whole_of (option_map (λ v. view v.now) value.entry) }
 {
@@ -22,7 +22,7 @@ fn whole(value: Option<&Value>) -> Option<i128>
     }
 }
 
-// The values of an array.
+/// The values of an array.
 fn items(value: &Value) -> Option<&[Value]>
     ensures { option_map (λ vs. map view vs.now) result
         ≡ option_map list_of (as_array (view value.now)) }
@@ -33,7 +33,7 @@ fn items(value: &Value) -> Option<&[Value]>
     }
 }
 
-// A number from 0 to `most`.
+/// A number from 0 to `most`.
 fn unsigned(found: Option<i128>, most: u64, place: Place) -> Result<u64, RecordFault>
     ensures exact { result ≡ unsigned_in most place found }
     ensures bound { IfOk result (λ n. n ≤ most) }
@@ -45,7 +45,7 @@ fn unsigned(found: Option<i128>, most: u64, place: Place) -> Result<u64, RecordF
     }
 }
 
-// A number of 32 bits with a sign.
+/// A number of 32 bits with a sign.
 fn signed(found: Option<i128>, place: Place) -> Result<i32, RecordFault>
     ensures { result ≡ signed_in place found }
 {
@@ -56,7 +56,7 @@ fn signed(found: Option<i128>, place: Place) -> Result<i32, RecordFault>
     }
 }
 
-// The values as numbers of 32 bits with a sign. The first fault has the place of the list.
+/// The values as numbers of 32 bits with a sign. The first fault has the place of the list.
 fn numbers(alloc: Global, values: &[Value], place: Place) -> Result<List<i32>, Refused<RecordFault>>
     ensures { Gives (each_from (λ _ d. signed_in place (whole_of d)) 0 (map view values.now))
         result }
@@ -64,7 +64,7 @@ fn numbers(alloc: Global, values: &[Value], place: Place) -> Result<List<i32>, R
     let mut numbers = List::new(alloc);
     for value in values {
         let number = signed(whole(Some(value)), place)?;
-        numbers.push(number).map_err(|_| Refused::Memory)?;
+        numbers.push(number)?;
     }
     Ok(numbers)
 }
@@ -127,6 +127,7 @@ impl<'a> Entry<'a> {
         }
     }
 
+    /// The values of an array.
     fn array(&self, member: Member) -> Result<&'a [Value], RecordFault>
         ensures { mapped (λ vs. map view vs.now) result ≡ array_at (record_of self.now) member }
     {

@@ -11,6 +11,7 @@ use crate::fault::RecordFault;
 use graph_model::{Connection, Kind, Member, Node, Refused, Uid};
 use std::alloc::Global;
 
+/// The members of an input.
 fn read_input(entry: &Entry) -> Result<Kind, RecordFault>
     ensures { result ≡ input_row (record_of entry.now) }
 {
@@ -19,6 +20,7 @@ fn read_input(entry: &Entry) -> Result<Kind, RecordFault>
     })
 }
 
+/// The members of an output.
 fn read_output(entry: &Entry) -> Result<Kind, RecordFault>
     ensures { result ≡ output_row (record_of entry.now) }
 {
@@ -27,6 +29,7 @@ fn read_output(entry: &Entry) -> Result<Kind, RecordFault>
     })
 }
 
+/// The members of a gain.
 fn read_gain(entry: &Entry) -> Result<Kind, RecordFault>
     ensures { result ≡ gain_row (record_of entry.now) }
 {
@@ -36,6 +39,7 @@ fn read_gain(entry: &Entry) -> Result<Kind, RecordFault>
     })
 }
 
+/// The members of a mixer.
 fn read_mixer(alloc: Global, entry: &Entry) -> Result<Kind, Refused<RecordFault>>
     ensures { Gives (mixer_row (record_of entry.now)) result }
 {
@@ -46,6 +50,7 @@ fn read_mixer(alloc: Global, entry: &Entry) -> Result<Kind, Refused<RecordFault>
     })
 }
 
+/// The members of a FIR filter.
 fn read_fir(alloc: Global, entry: &Entry) -> Result<Kind, Refused<RecordFault>>
     ensures { Gives (fir_row (record_of entry.now)) result }
 {
@@ -57,6 +62,7 @@ fn read_fir(alloc: Global, entry: &Entry) -> Result<Kind, Refused<RecordFault>>
     })
 }
 
+/// The members of a biquad filter.
 fn read_biquad(entry: &Entry) -> Result<Kind, RecordFault>
     ensures { result ≡ biquad_row (record_of entry.now) }
 {
@@ -72,6 +78,7 @@ fn read_biquad(entry: &Entry) -> Result<Kind, RecordFault>
     })
 }
 
+/// The members of a limiter.
 fn read_limiter(entry: &Entry) -> Result<Kind, RecordFault>
     ensures { result ≡ limiter_row (record_of entry.now) }
 {
@@ -82,6 +89,7 @@ fn read_limiter(entry: &Entry) -> Result<Kind, RecordFault>
     })
 }
 
+/// The members of a delay.
 fn read_delay(entry: &Entry) -> Result<Kind, RecordFault>
     ensures { result ≡ delay_row (record_of entry.now) }
 {
@@ -91,6 +99,7 @@ fn read_delay(entry: &Entry) -> Result<Kind, RecordFault>
     })
 }
 
+/// The members of an insert.
 fn read_insert(entry: &Entry) -> Result<Kind, RecordFault>
     ensures { result ≡ insert_row (record_of entry.now) }
 {
@@ -100,7 +109,7 @@ fn read_insert(entry: &Entry) -> Result<Kind, RecordFault>
     })
 }
 
-// The members of the kind of that name.
+/// The members of the kind of that name.
 fn read_kind(alloc: Global, entry: &Entry, name: &str) -> Result<Kind, Refused<RecordFault>>
     ensures { Gives (row_named (record_of entry.now) name.now) result }
 {

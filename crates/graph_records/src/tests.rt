@@ -3,7 +3,7 @@ use graph_model::{Connection, Graph, Kind, List, Member, Node, Refused, Uid};
 use std::alloc::{AllocError, Global};
 use std::test::Fail;
 
-// The graph or the fault.
+/// The graph or the fault.
 fn read(alloc: Global, bytes: &[u8]) -> Result<Result<Graph, RecordFault>, AllocError> {
     match read_graph(alloc, bytes) {
         Ok(graph) => Ok(Ok(graph)),
@@ -12,7 +12,7 @@ fn read(alloc: Global, bytes: &[u8]) -> Result<Result<Graph, RecordFault>, Alloc
     }
 }
 
-// The text, and none where the graph is too large.
+/// The text, and none where the graph is too large.
 fn write(alloc: Global, graph: &Graph) -> Result<Option<Vec<u8>>, AllocError> {
     if graph.nodes.len() > 512 || graph.connections.len() > 8192 {
         return Ok(None);
@@ -173,7 +173,7 @@ fn what_serde_json_does_not_read_is_no_text(rt: HostRuntime) -> Result<(), Fail>
     Ok(())
 }
 
-// An object whose member is ignored, and nests so many arrays.
+/// An object whose member is ignored, and nests so many arrays.
 fn nested(alloc: Global, arrays: usize) -> Result<String, AllocError> {
     let mut text = String::from_str(alloc, "{\"FILTERGRAPH\":{\"FILTER\":[]},\"deep\":")?;
     for _ in 0..arrays {
@@ -233,7 +233,7 @@ fn each_fault_has_its_place(rt: HostRuntime) -> Result<(), Fail> {
     Ok(())
 }
 
-// The fault of one node with these members beside its uid.
+/// The fault of one node with these members beside its uid.
 fn fault_of(alloc: Global, members: &str) -> Result<Option<RecordFault>, AllocError> {
     let text = format!(in alloc; "{{\"FILTERGRAPH\":{{\"FILTER\":[{{\"uid\":1,{members}}}]}}}}")?;
     Ok(read(alloc, text.as_bytes())?.err())
@@ -302,7 +302,7 @@ fn the_first_bad_member_decides(rt: HostRuntime) -> Result<(), Fail> {
     Ok(())
 }
 
-// So many records that are no objects.
+/// So many records that are no objects.
 fn zeros(alloc: Global, count: usize) -> Result<String, AllocError> {
     let mut text = String::from_str(alloc, "0")?;
     for _ in 1..count {

@@ -16,11 +16,13 @@ use graph_model::{Connection, Graph, List, Member, Node, Refused};
 use serde_json::{Error, Value};
 use std::alloc::Global;
 
+/// The most nodes of a graph.
 const MOST_NODES: usize = 512;
 
+/// The most connections of a graph.
 const MOST_CONNECTIONS: usize = 8192;
 
-// The object that holds a graph's records.
+/// The object that holds a graph's records.
 fn records(value: &Value) -> Result<&Value, RecordFault>
     ensures { mapped (λ v. view v.now) result ≡ records_of (view value.now) }
 {
@@ -37,6 +39,7 @@ fn records(value: &Value) -> Result<&Value, RecordFault>
     }
 }
 
+/// The nodes of these records.
 fn read_nodes(alloc: Global, values: &[Value]) -> Result<List<Node>, Refused<RecordFault>>
     requires { length values.now ≤ 512 }
     ensures { Gives (each_from node_of 0 (map view values.now)) result }
@@ -49,11 +52,12 @@ fn read_nodes(alloc: Global, values: &[Value]) -> Result<List<Node>, Refused<Rec
             value,
         };
         let node = read_node(alloc, &entry)?;
-        nodes.push(node).map_err(|_| Refused::Memory)?;
+        nodes.push(node)?;
     }
     Ok(nodes)
 }
 
+/// The connections of these records.
 fn read_connections(
     alloc: Global,
     values: &[Value],
@@ -69,12 +73,12 @@ fn read_connections(
             value,
         };
         let connection = read_connection(&entry)?;
-        connections.push(connection).map_err(|_| Refused::Memory)?;
+        connections.push(connection)?;
     }
     Ok(connections)
 }
 
-// Both lists are taken before any of their entries is read.
+/// The graph of the records. Both lists are taken before any of their entries is read.
 fn read_records(alloc: Global, value: &Value) -> Result<Graph, Refused<RecordFault>>
     ensures { Gives (graph_in (view value.now)) result }
 {
@@ -93,6 +97,7 @@ fn read_records(alloc: Global, value: &Value) -> Result<Graph, Refused<RecordFau
     Ok(Graph { nodes, connections })
 }
 
+/// Why bytes are no value: they are no JSON text, or there was no memory.
 fn refusal(error: &Error) -> Refused<RecordFault>
     ensures { (result ≡ Refused.Memory)
         ⊎ ((result ≡ Refused.Fault RecordFault.Text) × ¬ (IsMemory error.now)) }

@@ -12,6 +12,7 @@ use graph_model::{Connection, Graph, Kind, Node};
 use serde_json::{Value, json};
 use std::alloc::{AllocError, Global};
 
+/// The array of the numbers.
 fn numbers_value(alloc: Global, numbers: &[i32]) -> Result<Value, AllocError>
     ensures value { IfOk result (λ v. view v ≡ list_data (map signed_data numbers.now)) }
     ensures typed { OnOk result (All IsI32 numbers.now) }
@@ -23,24 +24,28 @@ fn numbers_value(alloc: Global, numbers: &[i32]) -> Result<Value, AllocError>
     Ok(Value::Array(values))
 }
 
+/// The record of an input.
 fn input_value(alloc: Global, uid: u32, channels: u32) -> Result<Value, AllocError>
     ensures { IfOk result (λ v. view v ≡ kind_data uid (Kind.Input channels)) }
 {
     json!(in alloc; {"channels": channels, "kind": "input", "uid": uid})
 }
 
+/// The record of an output.
 fn output_value(alloc: Global, uid: u32, channels: u32) -> Result<Value, AllocError>
     ensures { IfOk result (λ v. view v ≡ kind_data uid (Kind.Output channels)) }
 {
     json!(in alloc; {"channels": channels, "kind": "output", "uid": uid})
 }
 
+/// The record of a gain.
 fn gain_value(alloc: Global, uid: u32, channels: u32, gain: i32) -> Result<Value, AllocError>
     ensures { IfOk result (λ v. view v ≡ kind_data uid (Kind.Gain channels gain)) }
 {
     json!(in alloc; {"channels": channels, "gain": gain, "kind": "gain", "uid": uid})
 }
 
+/// The record of a mixer.
 fn mixer_value(
     alloc: Global,
     uid: u32,
@@ -55,6 +60,7 @@ fn mixer_value(
     json!(in alloc; {"gains": gains, "ins": ins, "kind": "mixer", "outs": outs, "uid": uid})
 }
 
+/// The record of a FIR filter.
 fn fir_value(
     alloc: Global,
     uid: u32,
@@ -78,21 +84,21 @@ fn fir_value(
     })
 }
 
+/// The record of a biquad filter: `b0`, `b1`, `b2` weigh the inputs, `a1`, `a2` the outputs.
 fn biquad_value(
     alloc: Global,
     uid: u32,
     channels: u32,
-    b0: i32,
-    b1: i32,
-    b2: i32,
-    a1: i32,
-    a2: i32,
+    of_inputs: (i32, i32, i32),
+    of_outputs: (i32, i32),
     shift: u32,
     bits: u32,
 ) -> Result<Value, AllocError>
     ensures { IfOk result
-        (λ v. view v ≡ kind_data uid (Kind.Biquad channels b0 b1 b2 a1 a2 shift bits)) }
+        (λ v. view v ≡ kind_data uid (Kind.Biquad channels of_inputs.0 of_inputs.1 of_inputs.2 of_outputs.0 of_outputs.1 shift bits)) }
 {
+    let (b0, b1, b2) = of_inputs;
+    let (a1, a2) = of_outputs;
     json!(in alloc; {
         "a1": a1,
         "a2": a2,
@@ -107,6 +113,7 @@ fn biquad_value(
     })
 }
 
+/// The record of a limiter.
 fn limiter_value(
     alloc: Global,
     uid: u32,
@@ -126,18 +133,21 @@ fn limiter_value(
     })
 }
 
+/// The record of a delay.
 fn delay_value(alloc: Global, uid: u32, channels: u32, samples: u32) -> Result<Value, AllocError>
     ensures { IfOk result (λ v. view v ≡ kind_data uid (Kind.Delay channels samples)) }
 {
     json!(in alloc; {"channels": channels, "kind": "delay", "samples": samples, "uid": uid})
 }
 
+/// The record of an insert.
 fn insert_value(alloc: Global, uid: u32, channels: u32, samples: u32) -> Result<Value, AllocError>
     ensures { IfOk result (λ v. view v ≡ kind_data uid (Kind.Insert channels samples)) }
 {
     json!(in alloc; {"channels": channels, "kind": "insert", "samples": samples, "uid": uid})
 }
 
+/// The record of a node.
 fn node_value(alloc: Global, node: &Node) -> Result<Value, AllocError>
     ensures value { IfOk result (λ v. view v ≡ node_data node.now) }
     ensures typed { OnOk result (IsTypedNode node.now) }
@@ -164,7 +174,13 @@ fn node_value(alloc: Global, node: &Node) -> Result<Value, AllocError>
             shift,
             bits,
         } => biquad_value(
-            alloc, uid, *channels, *b0, *b1, *b2, *a1, *a2, *shift, *bits,
+            alloc,
+            uid,
+            *channels,
+            (*b0, *b1, *b2),
+            (*a1, *a2),
+            *shift,
+            *bits,
         ),
         Kind::Limiter {
             channels,
@@ -176,6 +192,7 @@ fn node_value(alloc: Global, node: &Node) -> Result<Value, AllocError>
     }
 }
 
+/// The record of a connection.
 fn connection_value(alloc: Global, connection: &Connection) -> Result<Value, AllocError>
     ensures value { IfOk result (λ v. view v ≡ connection_data connection.now) }
     ensures typed { OnOk result (IsTypedConnection connection.now) }
@@ -188,6 +205,7 @@ fn connection_value(alloc: Global, connection: &Connection) -> Result<Value, All
     })
 }
 
+/// The array of the nodes' records.
 fn nodes_value(alloc: Global, nodes: &[Node]) -> Result<Value, AllocError>
     ensures value { IfOk result (λ v. view v ≡ list_data (map node_data nodes.now)) }
     ensures typed { OnOk result (All IsTypedNode nodes.now) }
@@ -199,6 +217,7 @@ fn nodes_value(alloc: Global, nodes: &[Node]) -> Result<Value, AllocError>
     Ok(Value::Array(values))
 }
 
+/// The array of the connections' records.
 fn connections_value(alloc: Global, connections: &[Connection]) -> Result<Value, AllocError>
     ensures value { IfOk result (λ v. view v ≡ list_data (map connection_data connections.now)) }
     ensures typed { OnOk result (All IsTypedConnection connections.now) }
@@ -210,6 +229,7 @@ fn connections_value(alloc: Global, connections: &[Connection]) -> Result<Value,
     Ok(Value::Array(values))
 }
 
+/// The object that holds a graph's records.
 fn graph_value(alloc: Global, graph: &Graph) -> Result<Value, AllocError>
     ensures value { IfOk result (λ v. view v ≡ data_of graph.now) }
     ensures typed { OnOk result (IsTyped graph.now) }

@@ -7,7 +7,7 @@ use Rattle.std.proofs.lemmas.List.{drop_at, take-append-le, take_all}
 use Rattle.byteorder.specs.Numbers.{little_number-reads_back}
 use Rattle.graph_model.specs.Refusals.{and_then}
 use Rattle.wav_pcm.specs.Samples.{IsSize, samples_in, bytes_of}
-use Rattle.wav_pcm.specs.Heads.{head_of, wave_file_of}
+use Rattle.wav_pcm.specs.Heads.{most_data, head_of, wave_file_of}
 use Rattle.wav_pcm.specs.Chunks.{u16_at, u32_at, chunk_at, AreChunks}
 use Rattle.wav_pcm.specs.Formats.{whole_format, format_in, is_pcm, checked_format}
 use Rattle.wav_pcm.specs.Files.{is_wave_start, is_wave, frames_in, head_in, ReadsAs, recorded}
@@ -109,7 +109,7 @@ small_size bits size = by_size (λ b. b ≤ 32) bits size (omega arith) (omega a
 
 -- a head and what follows it
 head_back : (channels rate bits frames d : ℕ) (rest : List ℕ) → 1 ≤ channels → channels ≤ 32 → 1 ≤ rate → rate ≤ 1000000 → IsSize bits
-    → d ≡ frames * (channels * (bits / 8)) → d ≤ 4294967258 → d ≤ length rest
+    → d ≡ frames * (channels * (bits / 8)) → d ≤ most_data → d ≤ length rest
     → ReadsAs channels (head_of channels rate bits d ++ rest) (Ok (written_head channels rate bits frames))
 head_back channels rate bits frames d rest least most rate_least rate_most size is small room =
     let file = head_of channels rate bits d ++ rest in

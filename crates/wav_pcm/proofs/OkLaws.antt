@@ -4,7 +4,7 @@ use Rattle.std.specs.Prelude.{Result, Ok, Err, IfSome, find, nat_le, if◌then�
 use Rattle.std.proofs.Math.Nat.{div-mul-le_self}
 use Rattle.std.proofs.lemmas.Bool.{leb-true, eqb-true}
 use Rattle.graph_model.specs.Refusals.{and_then}
-use Rattle.wav_pcm.specs.Samples.{IsSize}
+use Rattle.wav_pcm.specs.Samples.{IsSize, is_size}
 use Rattle.wav_pcm.specs.Chunks.{AreChunks, after, is_format, is_data}
 use Rattle.wav_pcm.specs.Formats.{whole_format, format_in, is_pcm, checked_format}
 use Rattle.wav_pcm.specs.Files.{is_wave, frames_in, head_in, head_by, data_size, IsHead}
@@ -32,7 +32,7 @@ or_true true b e = inl refl
 or_true false b e = inr e
 
 -- the sizes that are tested are the sizes of a sample
-size_tested : (bits : ℕ) → (((bits == 8 || bits == 16) || bits == 24) || bits == 32) ≡ true → IsSize bits
+pub size_tested : (bits : ℕ) → is_size bits ≡ true → IsSize bits
 size_tested bits e = elim (or_true ((bits == 8 || bits == 16) || bits == 24) (bits == 32) e) [
   | inr d ↦ inr (inr (inr (eqb-true bits 32 d)))
   | inl e ↦ elim (or_true (bits == 8 || bits == 16) (bits == 24) e) [

@@ -2,6 +2,7 @@
 use Rattle.std.specs.Prelude.{ℕ, ◌+◌, ◌==◌, ◌&&◌, ◌||◌, List, [], ◌∷◌, take, drop, Bool, false, nat_le, if◌then◌else◌, Option, Some, None, Result, Ok, Err}
 use Rattle.std.specs.Str.{bytes_eq}
 use Rattle.wav_pcm.specs.Chunks.{u16_at, u32_at}
+use Rattle.wav_pcm.specs.Samples.{is_size}
 use Rattle.wav_pcm.specs.declared.chunk.Chunk.{Chunk}
 use Rattle.wav_pcm.specs.declared.format.Extension.{Extension}
 use Rattle.wav_pcm.specs.declared.format.Format.{Format}
@@ -46,7 +47,7 @@ is_pcm_extension bits (Some extension) = extension.valid_bits == bits && bytes_e
 -- linear PCM of 8, 16, 24 or 32 bits, by its own tag or by an extension
 abbrev pub is_pcm : Format → Bool
 is_pcm format =
-    (((format.bits == 8 || format.bits == 16) || format.bits == 24) || format.bits == 32)
+    is_size format.bits
     && (format.tag == 1 || (format.tag == 65534 && is_pcm_extension format.bits format.extension))
 
 -- a format that is read for so many channels, or what is wrong with it first

@@ -1,7 +1,11 @@
 -- The head of a RIFF/WAVE file of PCM with one chunk of format and one of data: 44 bytes. All numbers stand lowest byte first.
-use Rattle.std.specs.Prelude.{ℕ, ◌+◌, ◌*◌, ◌/◌, ◌%◌, List, ◌++◌, codes, length, replicate, ℤ}
+use Rattle.std.specs.Prelude.{ℕ, ◌+◌, ◌-◌, ◌*◌, ◌/◌, ◌%◌, ◌^◌, List, ◌++◌, codes, length, replicate, ℤ}
 use Rattle.byteorder.specs.Endian.{little_bytes}
 use Rattle.wav_pcm.specs.Samples.{bytes_of}
+
+-- the most bytes of frames: a file's head counts 36 bytes and a pad byte beside them, in 32 bits
+abbrev pub most_data : ℕ
+most_data = 2 ^ 32 - 38
 
 -- `RIFF` with the number of bytes that follow it, pad included, `WAVE`, and `fmt ` with the size of its body
 abbrev pub riff_of : ℕ → List ℕ

@@ -8,6 +8,7 @@ ghost use Rattle.wav_pcm.specs.Formats.{whole_format, extension_in, format_in, i
 use crate::chunk::Chunk;
 use crate::field::{u16_at, u32_at};
 use crate::head::{EXTENSIBLE, PCM, PCM_SUBFORMAT, WavFault};
+use crate::sample::is_size;
 use gh_outside::{Failed, Folder};
 
 /// What a chunk of format says of samples and frames.
@@ -36,7 +37,7 @@ impl Format {
     fn is_pcm(&self) -> bool
         ensures { result ≡ is_pcm self.now }
     {
-        matches!(self.bits, 8 | 16 | 24 | 32)
+        is_size(u64::from(self.bits))
             && (self.tag == PCM
                 || (self.tag == EXTENSIBLE && is_pcm_extension(self.bits, self.extension)))
     }

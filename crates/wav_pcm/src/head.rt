@@ -115,6 +115,10 @@ impl From<Failed> for HeadFault {
     }
 }
 
+/// The most bytes of frames that a file has, 2^32 - 38: the size in its head counts 36 bytes and a
+/// pad byte beside them, in 32 bits.
+pub const MOST_DATA: u64 = 4_294_967_258;
+
 // The marks of a file and of its chunks.
 pub(crate) const RIFF: [u8; 4] = *b"RIFF";
 

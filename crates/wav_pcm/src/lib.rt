@@ -24,9 +24,9 @@ mod reading;
 mod sample;
 mod writing;
 
-pub use head::{Head, HeadFault, WavFault};
+pub use head::{Head, HeadFault, MOST_DATA, WavFault};
 pub use reading::{read_frames, read_head};
-pub use sample::frame_bytes;
+pub use sample::{frame_bytes, is_size};
 pub use writing::{head_bytes, put_frames};
 
 #[cfg(test)]

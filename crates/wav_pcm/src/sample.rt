@@ -1,10 +1,18 @@
 //! Samples as bytes.
 
-ghost use Rattle.std.specs.Prelude.{◌≡◌, ◌≤◌, ◌<◌, ◌+◌, ◌-◌, ◌*◌, ◌/◌, ◌^◌, ◌++◌, ◌≤ℤ◌, pos, ◌-ℤ◌, length, drop, All};
-ghost use Rattle.wav_pcm.specs.Samples.{IsSize, least, greatest, sample_bytes, sample_of, scaled, IsScaled, written, samples_in, bytes_of};
+ghost use Rattle.std.specs.Prelude.{◌≡◌, ◌≤◌, ◌<◌, ◌+◌, ◌-◌, ◌*◌, ◌/◌, ◌^◌, ◌++◌, ◌≤ℤ◌, ◌↔◌, IsTrue, pos, ◌-ℤ◌, length, drop, All};
+ghost use Rattle.wav_pcm.specs.Samples.{IsSize, is_size, least, greatest, sample_bytes, sample_of, scaled, IsScaled, written, samples_in, bytes_of};
 
 use byteorder::{ByteOrder, LittleEndian};
 use graph_model::{clamp_to, rs};
+
+/// Whether samples have so many bits in a file: 8, 16, 24 or 32.
+pub fn is_size(bits: u64) -> bool
+    ensures value { result ≡ is_size bits }
+    ensures size { IsTrue result ↔ IsSize bits }
+{
+    matches!(bits, 8 | 16 | 24 | 32)
+}
 
 /// Leaves in `bytes` what stands in a file of 8, 16, 24 or 32 bits for these samples, which are
 /// interleaved and scaled to 32 bits.

@@ -1,10 +1,10 @@
 //! Heads and frames are written.
 
-ghost use Rattle.std.specs.Prelude.{◌≡◌, ◌≤◌, ◌<◌, ◌+◌, ◌-◌, ◌*◌, ◌/◌, ◌%◌, ◌^◌, ◌++◌, length, drop, OnOk, OnErr};
+ghost use Rattle.std.specs.Prelude.{◌≡◌, ◌≤◌, ◌<◌, ◌+◌, ◌-◌, ◌*◌, ◌/◌, ◌%◌, ◌++◌, length, drop, OnOk, OnErr};
 ghost use Rattle.gh_outside.specs.Causes.{HasCause};
 ghost use Rattle.gh_outside.specs.Holdings.{IsMissing, KeepsOthers, HasGained, HasGainedPrefix};
 ghost use Rattle.wav_pcm.specs.Samples.{IsSize, bytes_of};
-ghost use Rattle.wav_pcm.specs.Heads.{head_of, riff_of, format_of};
+ghost use Rattle.wav_pcm.specs.Heads.{most_data, head_of, riff_of, format_of};
 
 use crate::head::{DATA, FORMAT, FORMAT_SIZE, PCM, RIFF, WAVE};
 use crate::sample::frame_bytes;
@@ -16,14 +16,14 @@ use gh_outside::{Failed, Folder};
 /// byte 0 where their bytes are odd in number.
 ///
 /// `channels` are from 1 to 32, `rate` is from 1 to 1,000,000 frames for each second, `bits` are 8,
-/// 16, 24 or 32, and the frames have at most 2^32 - 38 bytes, so that each number fits its field.
+/// 16, 24 or 32, and the frames have at most `MOST_DATA` bytes, so that each number fits its field.
 pub fn head_bytes(channels: u32, rate: u32, bits: u32, frames: u64, into: &mut [u8; 44])
     requires channels_least { 1 ≤ channels }
     requires channels_most { channels ≤ 32 }
     requires rate_least { 1 ≤ rate }
     requires rate_most { rate ≤ 1000000 }
     requires size { IsSize bits }
-    requires room { frames * (channels * (bits / 8)) ≤ 2 ^ 32 - 38 }
+    requires room { frames * (channels * (bits / 8)) ≤ most_data }
     ensures { into.new ≡ head_of channels rate bits (frames * (channels * (bits / 8))) }
 {
     let data_size = frames * u64::from(channels * (bits / 8));
@@ -35,7 +35,7 @@ fn put_head(channels: u32, rate: u32, bits: u32, data_size: u32, into: &mut [u8;
     requires channels { channels ≤ 32 }
     requires rate { rate ≤ 1000000 }
     requires bits { bits ≤ 32 }
-    requires room { data_size ≤ 4294967258 }
+    requires room { data_size ≤ most_data }
     ensures { into.new ≡ head_of channels rate bits data_size }
 {
     put_riff(data_size, into);
@@ -47,7 +47,7 @@ fn put_head(channels: u32, rate: u32, bits: u32, data_size: u32, into: &mut [u8;
 /// Writes what stands before the body of the chunk of format.
 fn put_riff(data_size: u32, into: &mut [u8])
     requires space { 20 ≤ length into.old }
-    requires room { data_size ≤ 4294967258 }
+    requires room { data_size ≤ most_data }
     ensures { into.new ≡ riff_of data_size ++ drop 20 into.old }
 {
     LittleEndian::write_u32(into, u32::from_le_bytes(RIFF));
@@ -90,9 +90,11 @@ pub fn put_frames<F: Folder>(
 ) -> Result<(), Failed>
     requires size { IsSize bits }
     requires room { length bytes.old ≡ length samples.now * (bits / 8) }
-    ensures gained { OnOk result (HasGained name.now (bytes_of bits samples.now) (F.held folder.old) (F.held folder.new)) }
+    ensures gained { OnOk result
+        (HasGained name.now (bytes_of bits samples.now) (F.held folder.old) (F.held folder.new)) }
     ensures others { KeepsOthers name.now (F.held folder.old) (F.held folder.new) }
-    ensures failed { OnErr result (HasGainedPrefix name.now (bytes_of bits samples.now) (F.held folder.old) (F.held folder.new)) }
+    ensures failed { OnErr result
+        (HasGainedPrefix name.now (bytes_of bits samples.now) (F.held folder.old) (F.held folder.new)) }
     ensures missed { IsMissing name.now (F.held folder.old) → F.held folder.new ≡ F.held folder.old }
     ensures cause { HasCause (IsMissing name.now (F.held folder.old))
         (F.write_faults folder.old) (F.write_faults folder.new)
