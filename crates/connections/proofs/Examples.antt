@@ -1,6 +1,8 @@
 -- First faults of small graphs, and false ones.
-use Rattle.std.proofs.Common.{◌≡◌, ℕ, zero, suc, ◌≤◌, List, [], ◌∷◌, length, refl, sym, ◌∙◌, ap, arith, pos, None, inl, inr, true, not, ◌==◌}
-use Rattle.std.specs.List.{Contains, list_all}
+use Rattle.std.proofs.Common.{◌≡◌, ℕ, zero, suc, Bool, ◌≤◌, List, [], ◌∷◌, length, refl, sym, ◌∙◌, ap, arith, pos, None, inl, inr, true, not, ◌==◌, ◌&&◌}
+use Rattle.std.specs.List.{AllByRecursion, Contains, list_all}
+use Rattle.std.specs.Prelude.{◌≢◌}
+use Rattle.std.proofs.lemmas.List.Kept.{AllPairs-cons}
 use Rattle.std.specs.Cmp.{first_so, second_so}
 use Rattle.std.proofs.lemmas.Bool.{false≢true}
 use Rattle.std.proofs.lemmas.List.Elements.{All-from_recursion}
@@ -17,7 +19,6 @@ use Rattle.graph_model.specs.declared.graph.Graph.{Graph}
 use Rattle.graph_model.proofs.PathLaws.{first_or_later, same_name}
 use Rattle.graph_model.proofs.Examples.{node, joined, fan_out}
 use Rattle.graph_model.proofs.ExampleSound.{sound}
-use Rattle.topology.proofs.TestGraphs.{named_by, differ}
 use Rattle.connections.specs.Faults.{UidsDiffer, HasGoodNodes, HasFewDelays, HasFewCells, HasLongDelays, HasManyCells, IsFirstFault}
 use Rattle.connections.specs.Laws.{without_walk}
 use Rattle.connections.specs.declared.fault.GraphFault.{GraphFault}
@@ -52,8 +53,24 @@ no_fault : (fault : GraphFault) → IsFirstFault fan_out fault → ⊥
 no_fault fault x = fails fan_out fault x (all_checks fan_out sound (stage fault))
 
 -- ---- nodes
-differ_by : (ns : List Node) → length ns ≤ 512 → differ ns ≡ true → UidsDiffer ns
-differ_by ns few e = (named_by (record { nodes = ns; connections = [] }) few (omega arith) e refl).uids_differ
+-- no node has the name of a later one
+abbrev differ : List Node → Bool
+differ [] = true
+differ (n ∷ ns) = list_all (λ m. not (n.uid.0 == m.uid.0)) ns && differ ns
+
+other_name : (m n : Node) → not (m.uid.0 == n.uid.0) ≡ true → m.uid ≢ n.uid
+other_name m n e same =
+    let names : m.uid.0 ≡ n.uid.0 = ap (λ (u : Uid). u.0) same in
+    let test : (m.uid.0 == n.uid.0) ≡ true = ap (λ v. v == n.uid.0) names ∙ same_name n.uid.0 in
+    false≢true (sym (ap not test) ∙ e)
+
+all_other : (m : Node) (ns : List Node) → list_all (λ n. not (m.uid.0 == n.uid.0)) ns ≡ true → AllByRecursion (λ n. m.uid ≢ n.uid) ns
+all_other m [] e = tt
+all_other m (n ∷ ns) e = (other_name m n (first_so _ _ e), all_other m ns (second_so _ _ e))
+
+differ_by : (ns : List Node) → differ ns ≡ true → UidsDiffer ns
+differ_by [] e = λ i j d lt l. absurd (omega arith)
+differ_by (n ∷ ns) e = AllPairs-cons (λ m n. m.uid ≢ n.uid) n ns (All-from_recursion (λ m. n.uid ≢ m.uid) ns (all_other n ns (first_so _ _ e))) (differ_by ns (second_so _ _ e))
 
 abbrev repeated : Graph
 repeated = record {
@@ -62,7 +79,7 @@ repeated = record {
 }
 
 two_stands_twice : IsFirstFault repeated (UidTwice (uid 2) 0 2)
-two_stands_twice = (omega arith, refl, refl, differ_by (node 2 (Output 1) ∷ node 3 (Output 33) ∷ []) (omega arith) refl)
+two_stands_twice = (omega arith, refl, refl, differ_by (node 2 (Output 1) ∷ node 3 (Output 33) ∷ []) refl)
 
 not_the_later_uid : IsFirstFault repeated (UidTwice (uid 3) 1 3) → ⊥
 not_the_later_uid = not_first repeated (UidTwice (uid 2) 0 2) (UidTwice (uid 3) 1 3) two_stands_twice (λ e. absurd (omega arith))
@@ -71,7 +88,7 @@ abbrev out_of_range : Graph
 out_of_range = record { nodes = node 5 (Output 32) ∷ node 0 (Output 33) ∷ []; connections = [] }
 
 uid_before_channels : IsFirstFault out_of_range (KindField (uid 0) member.Uid)
-uid_before_channels = (differ_by out_of_range.nodes (omega arith) refl, (node 0 (Output 33), refl, refl, refl))
+uid_before_channels = (differ_by out_of_range.nodes refl, (node 0 (Output 33), refl, refl, refl))
 
 not_the_last_member : IsFirstFault out_of_range (KindField (uid 0) member.Channels) → ⊥
 not_the_last_member =
@@ -82,7 +99,7 @@ two_inputs = record { nodes = node 1 (Input 1) ∷ node 2 (Output 1) ∷ node 3 
 
 both_are_counted : IsFirstFault two_inputs (Ends 2 1)
 both_are_counted = (
-  differ_by two_inputs.nodes (omega arith) refl,
+  differ_by two_inputs.nodes refl,
   All-from_recursion (λ n. bad_member n ≡ None) two_inputs.nodes (refl, (refl, (refl, tt))),
   (refl, refl),
   λ e. absurd (let inputs : 2 ≡ suc zero = e.0 in omega arith),
@@ -97,7 +114,7 @@ between cs = record {
 
 good : (cs : List Connection) → HasGoodNodes (between cs)
 good cs = record {
-  uids_differ = differ_by (between []).nodes (omega arith) refl;
+  uids_differ = differ_by (between []).nodes refl;
   in_range = All-from_recursion (λ n. bad_member n ≡ None) (between []).nodes (refl, (refl, (refl, (refl, tt))));
   ends = (refl, refl);
 }

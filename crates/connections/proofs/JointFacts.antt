@@ -6,8 +6,6 @@ use Rattle.std.proofs.lemmas.Bool.{cases_eq}
 use Rattle.std.proofs.lemmas.List.{get_or_default}
 use Rattle.std.proofs.lemmas.Option.{slice_get-get_or}
 use Rattle.graph_model.specs.Checks.{IsConnection, AreConnections}
-use Rattle.graph_model.specs.Sound.{Fits, IsShaped}
-use Rattle.graph_model.specs.Named.{IsNamed}
 use Rattle.graph_model.specs.declared.graph.Connection.{Connection}
 use Rattle.graph_model.specs.declared.graph.Graph.{Graph}
 
@@ -42,10 +40,3 @@ connection_passes g at d cs same lt before alone new =
 -- what the code reads where there is none
 abbrev pub no_connection : Connection
 no_connection = record { src = record { 0 = 0 }; src_channel = 0; dst = record { 0 = 0 }; dst_channel = 0 }
-
-pub shaped_is_named : (g : Graph) → Fits g → IsShaped g → IsNamed g
-shaped_is_named g fits shaped = record {
-  fits = fits;
-  uids_differ = shaped.uids_differ;
-  nodes_exist = λ k d lt. let c = shaped.connections k d lt in (c.source_exists, c.destination_exists);
-}

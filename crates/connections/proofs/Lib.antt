@@ -4,3 +4,5 @@ pub mod LimitFacts
 pub mod FaultFacts
 pub mod FirstFaults
 pub mod Examples
+pub mod EndFacts
+pub mod LatencyFacts

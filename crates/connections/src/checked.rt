@@ -1,13 +1,26 @@
-ghost use Rattle.std.specs.Prelude.{◌≡◌, ◌<◌, length};
+//! A sound graph, and what is known of it.
+
+ghost use Rattle.std.specs.Prelude.{◌≡◌, ◌<◌, ◌≤◌, ◌^◌, length, get_or};
 ghost use Rattle.graph_model.specs.Bounds.{bounds};
-ghost use Rattle.graph_model.specs.Paths.{reach, is_live, IsPrintedPath};
+ghost use Rattle.graph_model.specs.Graphs.{input_name, output_name, in_channels, out_channels};
+ghost use Rattle.graph_model.specs.Paths.{reach, is_live, latency_of_graph, IsPrintedPath};
+ghost use Rattle.graph_model.specs.declared.graph.Connection.{Connection};
 ghost use Rattle.graph_model.specs.Sound.{IsSound};
 ghost use Rattle.graph_model.specs.Named.{uid_at};
 ghost use Rattle.topology.specs.Answers.{IsOrderOfNodes};
 
 use graph_model::{Bound, Graph, List, Uid};
 use std::marker::Model;
-use topology::Reach;
+use topology::{Link, Reach};
+
+/// The nodes that a connection joins, by their indexes.
+#[derive(Clone, Copy, Debug, PartialEq, Eq)]
+pub struct Ends {
+    /// The node that it reads.
+    pub source: u32,
+    /// The node that it leads into.
+    pub destination: u32,
+}
 
 /// A sound graph, with its order, its reaches and its printed path, its live nodes and its bounds. Contracts see the
 /// graph. It is made by [`check`](crate::check) alone. Nodes are named by their indexes: their places in the graph's
@@ -19,6 +32,7 @@ pub struct Checked {
     pub(crate) reach: Reach,
     pub(crate) live: List<bool>,
     pub(crate) bounds: List<Bound>,
+    pub(crate) links: Vec<Link>,
 }
 
 impl Model for Checked {
@@ -81,5 +95,66 @@ impl Checked {
         ensures { result.now ≡ bounds self.now (uid_at self.now node) }
     {
         &self.bounds.as_slice()[node as usize]
+    }
+
+    /// The index of the input node.
+    pub fn input(&self) -> u32
+        ensures within { result < length self.now.nodes }
+        ensures name { uid_at self.now result ≡ input_name self.now }
+    {
+        self.graph().input_index().unwrap() as u32
+    }
+
+    /// The index of the output node.
+    pub fn output(&self) -> u32
+        ensures within { result < length self.now.nodes }
+        ensures name { uid_at self.now result ≡ output_name self.now }
+    {
+        self.graph().output_index().unwrap() as u32
+    }
+
+    /// How many channels come into the graph: those of the input node.
+    pub fn input_channels(&self) -> u32
+        ensures channels { result ≡ in_channels self.now }
+        ensures least { 1 ≤ result }
+        ensures most { result ≤ 32 }
+    {
+        let graph = self.graph();
+        let index = graph.input_index().unwrap();
+        graph.nodes.as_slice()[index].outs()
+    }
+
+    /// How many channels the graph's answer has: those of the output node.
+    pub fn output_channels(&self) -> u32
+        ensures channels { result ≡ out_channels self.now }
+        ensures least { 1 ≤ result }
+        ensures most { result ≤ 32 }
+    {
+        let graph = self.graph();
+        let index = graph.output_index().unwrap();
+        graph.nodes.as_slice()[index].ins()
+    }
+
+    /// The latency of the graph, in frames: the reach of its output node.
+    pub fn latency(&self) -> u64
+        ensures latency { result ≡ latency_of_graph self.now }
+        ensures small { result ≤ 2 ^ 26 }
+    {
+        self.reach.at.as_slice()[self.output() as usize]
+    }
+
+    /// The nodes that a connection joins. Connections are named by their indexes, as nodes are.
+    pub fn ends(&self, connection: u32) -> Ends
+        requires { connection < length self.now.connections }
+        ensures source_within { result.source < length self.now.nodes }
+        ensures destination_within { result.destination < length self.now.nodes }
+        ensures source { (d : Connection) → uid_at self.now result.source ≡ (get_or self.now.connections connection d).src.0 }
+        ensures destination { (d : Connection) → uid_at self.now result.destination ≡ (get_or self.now.connections connection d).dst.0 }
+    {
+        let Link { from, to } = self.links[connection as usize];
+        Ends {
+            source: from as u32,
+            destination: to as u32,
+        }
     }
 }

@@ -4,7 +4,7 @@ ghost use Rattle.std.specs.Prelude.{◌≡◌, length, map, IfOk, IfErr, MatchRe
 ghost use Rattle.graph_model.specs.Checks.{AreConnections};
 ghost use Rattle.graph_model.specs.Paths.{is_live};
 ghost use Rattle.graph_model.specs.Sound.{Fits, IsShaped, IsSound};
-ghost use Rattle.topology.specs.Answers.{IsOrderOfNodes, IsReachOf};
+ghost use Rattle.topology.specs.Answers.{IsOrderOfNodes};
 ghost use Rattle.headroom.specs.Answers.{AreBounds, AllBounded};
 ghost use Rattle.connections.specs.Faults.{HasGoodNodes, HasFewDelays, HasFewCells, IsFirstFault, IsRefusal};
 
@@ -15,8 +15,8 @@ use crate::limits::{check_cells, check_delays};
 use crate::nodes::check_nodes;
 use graph_model::{Bound, Graph, List, Refused};
 use headroom::bounds;
-use std::alloc::Global;
-use topology::{Cycle, Reach, live, longest, order};
+use std::alloc::{AllocError, Global};
+use topology::{Cycle, links, live, longest, order};
 
 /// Checks the nodes, and then the connections.
 fn check_parts(graph: &Graph) -> Result<(), GraphFault>
@@ -46,31 +46,13 @@ fn order_of(alloc: Global, graph: &Graph) -> Result<List<u32>, Refused<GraphFaul
     }
 }
 
-/// The reaches of the nodes and the printed path.
-fn reach_of(alloc: Global, graph: &Graph, order: &List<u32>) -> Result<Reach, Refused<GraphFault>>
-    requires fits { Fits graph.now }
-    requires shaped { IsShaped graph.now }
-    requires order { IsOrderOfNodes graph.now order.now }
-    ensures reach { IfOk result (IsReachOf graph.now) }
-    ensures memory { IfErr result (λ refused. refused ≡ Refused.Memory) }
-{
-    match longest(alloc, graph, order) {
-        Ok(reach) => Ok(reach),
-        Err(_) => Err(Refused::Memory),
-    }
-}
-
 /// For each node whether it is live.
-fn live_of(alloc: Global, graph: &Graph) -> Result<List<bool>, Refused<GraphFault>>
+fn live_of(alloc: Global, graph: &Graph) -> Result<List<bool>, AllocError>
     requires fits { Fits graph.now }
     requires shaped { IsShaped graph.now }
-    ensures live { IfOk result (λ live. live ≡ map (λ n. is_live graph.now n.uid.0) graph.now.nodes) }
-    ensures memory { IfErr result (λ refused. refused ≡ Refused.Memory) }
+    ensures { IfOk result (λ live. live ≡ map (λ n. is_live graph.now n.uid.0) graph.now.nodes) }
 {
-    match live(alloc, graph) {
-        Ok(live) => Ok(live),
-        Err(_) => Err(Refused::Memory),
-    }
+    live(alloc, graph)
 }
 
 /// The bounds of the nodes, or else the first that passes the limit.
@@ -113,7 +95,8 @@ pub fn check(alloc: Global, graph: Graph) -> Result<Checked, Refused<GraphFault>
 {
     check_parts(&graph)?;
     let order = order_of(alloc, &graph)?;
-    let reach = reach_of(alloc, &graph, &order)?;
+    let links = links(alloc, &graph)?;
+    let reach = longest(alloc, &graph, &order)?;
     let live = live_of(alloc, &graph)?;
     check_delays(&graph, &reach, live.as_slice())?;
     check_cells(&graph)?;
@@ -124,5 +107,6 @@ pub fn check(alloc: Global, graph: Graph) -> Result<Checked, Refused<GraphFault>
         reach,
         live,
         bounds,
+        links,
     })
 }

@@ -1,7 +1,7 @@
 //! The limits of a graph's delays and of what its processors keep.
 
-ghost use Rattle.std.specs.Prelude.{◌≡◌, ◌<◌, ◌≤◌, ◌^◌, ◌*◌, length, map, sum_by, position, MatchResult};
-ghost use Rattle.graph_model.specs.Graphs.{IsNode, is_output, output_name};
+ghost use Rattle.std.specs.Prelude.{◌≡◌, ◌<◌, ◌≤◌, ◌^◌, ◌*◌, length, map, sum_by, MatchResult};
+ghost use Rattle.graph_model.specs.Graphs.{IsNode};
 ghost use Rattle.graph_model.specs.Kinds.{cells_of};
 ghost use Rattle.graph_model.specs.Ranges.{HasRange};
 ghost use Rattle.graph_model.specs.Paths.{is_live, reach, live_connections, latency_of_graph};
@@ -11,7 +11,7 @@ ghost use Rattle.connections.specs.Faults.{HasFewDelays, HasFewCells, IsFirstFau
 
 use crate::fault::GraphFault;
 use graph_model::{Graph, Kind, Uid};
-use topology::Reach;
+use topology::{Reach, index_of};
 
 /// The most frames that the lines of a graph may hold together, were each as long as the graph's latency.
 const MOST_DELAYS: u128 = 1 << 26;
@@ -19,23 +19,13 @@ const MOST_DELAYS: u128 = 1 << 26;
 /// The most numbers that the processors of a graph may keep.
 const MOST_CELLS: u64 = 1 << 25;
 
-/// The index of the first output node.
-fn first_output(graph: &Graph) -> Option<usize>
-    ensures { result ≡ position (λ n. is_output n.kind) graph.now.nodes }
-{
-    let nodes = graph.nodes.as_slice();
-    nodes
-        .iter()
-        .position(|node| matches!(node.kind, Kind::Output { .. }))
-}
-
 /// The latency of a graph: the reach of its output node.
 fn latency_of(graph: &Graph, reach: &Reach) -> u64
     requires shaped { IsShaped graph.now }
     requires reach { IsReachOf graph.now reach.now }
     ensures { result ≡ latency_of_graph graph.now }
 {
-    let output = first_output(graph).unwrap();
+    let output = graph.output_index().unwrap();
     reach.at.as_slice()[output]
 }
 
@@ -45,13 +35,7 @@ fn is_live(graph: &Graph, live: &[bool], uid: Uid) -> bool
     requires live { live.now ≡ map (λ n. is_live graph.now n.uid.0) graph.now.nodes }
     ensures { result ≡ is_live graph.now uid.0 }
 {
-    let nodes = graph.nodes.as_slice();
-    for index in 0..nodes.len() {
-        if nodes[index].uid.0 == uid.0 {
-            return live[index];
-        }
-    }
-    unreachable!()
+    live[index_of(graph, uid)]
 }
 
 /// How many connections lead to a live node.

@@ -7,9 +7,9 @@ ghost use Rattle.connections.specs.Faults.{UidsDiffer, AreInRange, HasGoodNodes,
 
 use crate::fault::GraphFault;
 use crate::members::bad_member;
-use graph_model::{Graph, Kind, Node, Uid};
+use graph_model::{Graph, Node, Uid};
 
-/// The first place of a uid.
+/// The first place of a uid among these nodes.
 fn place_of(nodes: &[Node], uid: Uid) -> Option<usize>
     ensures { result ≡ position (λ n. n.uid.0 == uid.0) nodes.now }
 {
@@ -55,20 +55,14 @@ fn check_members(graph: &Graph) -> Result<(), GraphFault>
 fn inputs(nodes: &[Node]) -> usize
     ensures { result ≡ count_by (λ n. is_input n.kind) nodes.now }
 {
-    nodes
-        .iter()
-        .filter(|node| matches!(node.kind, Kind::Input { .. }))
-        .count()
+    nodes.iter().filter(|node| node.kind.is_input()).count()
 }
 
 /// How many output nodes there are.
 fn outputs(nodes: &[Node]) -> usize
     ensures { result ≡ count_by (λ n. is_output n.kind) nodes.now }
 {
-    nodes
-        .iter()
-        .filter(|node| matches!(node.kind, Kind::Output { .. }))
-        .count()
+    nodes.iter().filter(|node| node.kind.is_output()).count()
 }
 
 /// Finds another number of input or output nodes than one.

@@ -1,118 +1,25 @@
 //! What no clause says: worked examples, the order of the refusals, and their texts.
 
-use crate::{Checked, GraphFault, check};
+ghost use Rattle.graph_model.specs.Sound.{Fits};
+
+use crate::{Checked, Ends, GraphFault, check};
 use graph_model::{Connection, Graph, Kind, List, Member, Node, Refused, Side, Uid};
 use std::alloc::{AllocError, Global};
 use std::test::Fail;
-
-fn node(uid: u32, kind: Kind) -> Node {
-    Node {
-        uid: Uid(uid),
-        kind,
-    }
-}
-
-fn input(uid: u32) -> Node {
-    node(uid, Kind::Input { channels: 1 })
-}
-
-fn output(uid: u32, channels: u32) -> Node {
-    node(uid, Kind::Output { channels })
-}
-
-fn gain(uid: u32, gain: i32) -> Node {
-    node(uid, Kind::Gain { channels: 1, gain })
-}
-
-fn insert(uid: u32, samples: u32) -> Node {
-    node(
-        uid,
-        Kind::Insert {
-            channels: 1,
-            samples,
-        },
-    )
-}
-
-fn delay(uid: u32, channels: u32, samples: u32) -> Node {
-    node(uid, Kind::Delay { channels, samples })
-}
-
-fn joined_at(src: u32, src_channel: u32, dst: u32, dst_channel: u32) -> Connection {
-    Connection {
-        src: Uid(src),
-        src_channel,
-        dst: Uid(dst),
-        dst_channel,
-    }
-}
-
-fn joined(src: u32, dst: u32) -> Connection {
-    joined_at(src, 0, dst, 0)
-}
-
-fn graph_of(
-    alloc: Global,
-    items: Vec<Node>,
-    connections: &[Connection],
-) -> Result<Graph, AllocError> {
-    let mut nodes = List::new(alloc);
-    for node in items {
-        nodes.push(node)?;
-    }
-    let connections = List::from_slice(alloc, connections)?;
-    Ok(Graph { nodes, connections })
-}
-
-/// That many nodes of one kind in a row between the input and the output.
-fn in_a_row(alloc: Global, nodes: u32, kind: &Kind) -> Result<Graph, AllocError> {
-    let mut graph = graph_of(alloc, vec![in alloc; input(1), output(2, 1)]?, &[])?;
-    let mut last = 1;
-    for uid in 3..3 + nodes.min(500) {
-        graph.nodes.push(node(uid, kind.copy(alloc)?))?;
-        graph.connections.push(joined(last, uid))?;
-        last = uid;
-    }
-    graph.connections.push(joined(last, 2))?;
-    Ok(graph)
-}
-
-/// The graph with one node more, into which a connection from another one leads.
-fn with_idle(mut graph: Graph, node: Node, source: u32) -> Result<Graph, AllocError> {
-    let uid = node.uid;
-    graph.nodes.push(node)?;
-    graph.connections.push(joined(source, uid.0))?;
-    Ok(graph)
-}
-
-fn checked(alloc: Global, graph: Graph) -> Result<Checked, Refused<GraphFault>> {
-    if graph.nodes.len() > 512 || graph.connections.len() > 8192 {
-        return Err(Refused::Memory);
-    }
-    check(alloc, graph)
-}
+use test_graphs::{
+    delay, fan_out, fir, gain, graph_of, in_a_row, input, insert, joined, joined_at, mixer, output,
+    with_idle,
+};
 
 /// The fault of a graph, and none where it is sound.
-fn fault_of(alloc: Global, graph: Graph) -> Result<Option<GraphFault>, AllocError> {
-    match checked(alloc, graph) {
+fn fault_of(alloc: Global, graph: Graph) -> Result<Option<GraphFault>, AllocError>
+    requires { Fits graph }
+{
+    match check(alloc, graph) {
         Ok(_checked) => Ok(None),
         Err(Refused::Fault(fault)) => Ok(Some(fault)),
         Err(Refused::Memory) => Err(AllocError),
     }
-}
-
-/// An insert of 5 into one channel of the output, beside a gain into three.
-fn fan_out(alloc: Global) -> Result<Graph, AllocError> {
-    let nodes = vec![in alloc; input(1), output(2, 3), insert(3, 5), gain(4, 65536)]?;
-    let connections = [
-        joined(1, 3),
-        joined(3, 2),
-        joined(1, 4),
-        joined(4, 2),
-        joined_at(4, 0, 2, 1),
-        joined_at(4, 0, 2, 2),
-    ];
-    graph_of(alloc, nodes, &connections)
 }
 
 /// Whether the accessors tell of a node of a live graph what is wanted.
@@ -130,11 +37,14 @@ fn tells(checked: &Checked, node: u32, reach: u64, ins: &[u64], outs: &[u64]) ->
 #[test]
 fn an_accepted_graph_tells_what_the_definitions_give(rt: HostRuntime) -> Result<(), Fail> {
     let alloc = rt.alloc();
-    let graph = fan_out(alloc)?;
-    let Ok(checked) = checked(alloc, graph) else {
-        return Err("refused".into());
-    };
+    let checked = check(alloc, fan_out(alloc)?)?;
     assert!(rt; *checked.graph() == fan_out(alloc)?);
+    assert_eq!(rt; (checked.input(), checked.output()), (0, 1));
+    assert_eq!(rt;
+        (checked.input_channels(), checked.output_channels()),
+        (1, 3)
+    );
+    assert_eq!(rt; checked.latency(), 5);
     assert_eq!(rt; checked.order().as_slice(), [0, 2, 3, 1].as_slice());
     assert_eq!(rt;
         checked.path().as_slice(),
@@ -148,9 +58,69 @@ fn an_accepted_graph_tells_what_the_definitions_give(rt: HostRuntime) -> Result<
     Ok(())
 }
 
+/// The output first and the input third, an insert of 7 between them, and a delay that leads nowhere.
+#[test]
+fn names_decide_and_not_places(rt: HostRuntime) -> Result<(), Fail> {
+    let alloc = rt.alloc();
+    let nodes = vec![in alloc; output(9, 1), delay(4, 1, 3), input(8, 1), insert(5, 7)]?;
+    let ways = [joined(5, 9), joined(8, 5), joined(8, 4)];
+    let checked = check(alloc, graph_of(alloc, nodes, &ways)?)?;
+    assert_eq!(rt;
+        (checked.input(), checked.output(), checked.latency()),
+        (2, 0, 7)
+    );
+    assert_eq!(rt; checked.order().as_slice(), [2, 1, 3, 0].as_slice());
+    assert_eq!(rt;
+        checked.path().as_slice(),
+        [Uid(8), Uid(5), Uid(9)].as_slice()
+    );
+    if checked.graph().nodes.len() == 4 && checked.graph().connections.len() == 3 {
+        assert!(rt; checked.is_live(2) && !checked.is_live(1));
+        assert_eq!(rt;
+            checked.ends(2),
+            Ends {
+                source: 2,
+                destination: 1
+            }
+        );
+        return Ok(());
+    }
+    Err("not that graph".into())
+}
+
+/// The bounds of all output channels, node by node.
+fn outs_of(alloc: Global, checked: &Checked) -> Result<Vec<u64>, AllocError> {
+    let mut outs = Vec::new(alloc);
+    for node in 0..checked.graph().nodes.len() {
+        for bound in checked.bound(node as u32).outs.as_slice() {
+            outs.push(*bound)?;
+        }
+    }
+    Ok(outs)
+}
+
+#[test]
+fn the_gains_of_a_mixer_stand_by_output(rt: HostRuntime) -> Result<(), Fail> {
+    let alloc = rt.alloc();
+    let gains = [65536, 0, 131072, -65536, 0, 32768];
+    let nodes = vec![in alloc; input(1, 2), output(2, 3), mixer(alloc, 3, 2, 3, &gains)?]?;
+    let ways = [
+        joined(1, 3),
+        joined_at(1, 1, 3, 1),
+        joined(3, 2),
+        joined_at(3, 1, 2, 1),
+        joined_at(3, 2, 2, 2),
+    ];
+    let checked = check(alloc, graph_of(alloc, nodes, &ways)?)?;
+    let outs = outs_of(alloc, &checked)?;
+    let wanted = [2147483648, 2147483648, 2147483648, 6442450944, 1073741824];
+    assert_eq!(rt; outs.as_slice(), wanted.as_slice());
+    Ok(())
+}
+
 /// The fault of connections between an input, an output and a gain, nodes 1, 2 and 3, of one channel.
 fn fault_over(alloc: Global, connections: &[Connection]) -> Result<Option<GraphFault>, AllocError> {
-    let nodes = vec![in alloc; input(1), output(2, 1), gain(3, 65536)]?;
+    let nodes = vec![in alloc; input(1, 1), output(2, 1), gain(3, 65536)]?;
     fault_of(alloc, graph_of(alloc, nodes, connections)?)
 }
 
@@ -235,7 +205,7 @@ fn uids_come_before_members_and_members_before_ends(rt: HostRuntime) -> Result<(
 #[test]
 fn there_is_one_input_and_one_output(rt: HostRuntime) -> Result<(), Fail> {
     let alloc = rt.alloc();
-    let nodes = vec![in alloc; input(1), output(2, 1), input(3)]?;
+    let nodes = vec![in alloc; input(1, 1), output(2, 1), input(3, 1)]?;
     let wanted = GraphFault::Ends {
         inputs: 2,
         outputs: 1,
@@ -247,7 +217,7 @@ fn there_is_one_input_and_one_output(rt: HostRuntime) -> Result<(), Fail> {
 #[test]
 fn a_cycle_of_idle_nodes_is_refused(rt: HostRuntime) -> Result<(), Fail> {
     let alloc = rt.alloc();
-    let nodes = vec![in alloc; input(1), output(2, 1), gain(3, 1), gain(4, 1)]?;
+    let nodes = vec![in alloc; input(1, 1), output(2, 1), gain(3, 1), gain(4, 1)]?;
     let connections = [joined(1, 2), joined(3, 4), joined(4, 3)];
     let fault = fault_of(alloc, graph_of(alloc, nodes, &connections)?)?;
     let Some(GraphFault::Cycle { walk }) = fault else {
@@ -279,9 +249,14 @@ fn delays_are_counted_over_live_connections(rt: HostRuntime) -> Result<(), Fail>
 #[test]
 fn cells_are_counted_over_idle_nodes(rt: HostRuntime) -> Result<(), Fail> {
     let alloc = rt.alloc();
-    let alone = vec![in alloc; input(1), output(2, 1), delay(3, 32, 1 << 20)]?;
+    let alone = vec![in alloc; input(1, 1), output(2, 1), delay(3, 32, 1 << 20)]?;
     assert_eq!(rt; fault_of(alloc, graph_of(alloc, alone, &[])?)?, None);
-    let beside = vec![in alloc; input(1), output(2, 1), delay(3, 32, 1 << 20), insert(4, 1)]?;
+    let beside = vec![in alloc;
+        input(1, 1),
+        output(2, 1),
+        delay(3, 32, 1 << 20),
+        insert(4, 1),
+    ]?;
     let wanted = GraphFault::StateBound { cells: 33_554_433 };
     assert_eq!(rt;
         fault_of(alloc, graph_of(alloc, beside, &[])?)?,
@@ -290,13 +265,17 @@ fn cells_are_counted_over_idle_nodes(rt: HostRuntime) -> Result<(), Fail> {
     Ok(())
 }
 
-fn loud(uid: u32) -> GraphFault {
+fn loud_by(uid: u32, bound: u64) -> GraphFault {
     GraphFault::Headroom {
         uid: Uid(uid),
         side: Side::Out,
         channel: 0,
-        bound: 140_737_488_355_328,
+        bound,
     }
+}
+
+fn loud(uid: u32) -> GraphFault {
+    loud_by(uid, 140_737_488_355_328)
 }
 
 #[test]
@@ -312,6 +291,38 @@ fn bounds_are_told_of_idle_nodes_too(rt: HostRuntime) -> Result<(), Fail> {
     assert_eq!(rt; fault_of(alloc, four)?, Some(loud(6)));
     let idle = with_idle(in_a_row(alloc, 3, &sixteen)?, gain(9, 1 << 20), 5)?;
     assert_eq!(rt; fault_of(alloc, idle)?, Some(loud(9)));
+    Ok(())
+}
+
+/// A filter with one tap, nearly 2^24.
+fn great_tap(alloc: Global, uid: u32) -> Result<Node, AllocError> {
+    fir(alloc, uid, &[16777215], 0, 0)
+}
+
+#[test]
+fn of_two_idle_nodes_the_least_name_is_told(rt: HostRuntime) -> Result<(), Fail> {
+    let alloc = rt.alloc();
+    let nodes = vec![in alloc;
+        input(1, 1),
+        output(2, 1),
+        great_tap(alloc, 9)?,
+        great_tap(alloc, 4)?,
+    ]?;
+    let ways = [joined(1, 2), joined(1, 9), joined(1, 4)];
+    let fault = fault_of(alloc, graph_of(alloc, nodes, &ways)?)?;
+    assert_eq!(rt; fault, Some(loud_by(4, 36_028_794_871_480_320)));
+    Ok(())
+}
+
+#[test]
+fn a_bound_beyond_64_bits_is_told_as_the_greatest(rt: HostRuntime) -> Result<(), Fail> {
+    let alloc = rt.alloc();
+    let sixteen = Kind::Gain {
+        channels: 1,
+        gain: 1 << 20,
+    };
+    let row = with_idle(in_a_row(alloc, 3, &sixteen)?, great_tap(alloc, 9)?, 5)?;
+    assert_eq!(rt; fault_of(alloc, row)?, Some(loud_by(9, u64::MAX)));
     Ok(())
 }
 

@@ -1,19 +1,58 @@
 -- The bounds and the first place that is too loud, at small graphs.
-use Rattle.std.proofs.Common.{◌≡◌, ℕ, List, [], ◌∷◌, refl, ap, sym, ◌∙◌, ◌==◌, arith, false, get_or}
+use Rattle.std.proofs.Common.{◌≡◌, ℕ, List, [], ◌∷◌, pos, negsuc, refl, ap, sym, ◌∙◌, ◌==◌, arith, false, get_or}
 use Rattle.std.proofs.lemmas.Bool.{false≢true}
 use Rattle.graph_model.specs.Bounds.{bounds, bounds_within}
+use Rattle.graph_model.specs.declared.kind.Kind.{Kind}
+use Rattle.graph_model.specs.declared.kind.Kind.TheVariants.{Input, Output, Gain, Mixer, Fir}
 use Rattle.graph_model.specs.declared.graph.Bound.{Bound}
+use Rattle.graph_model.specs.declared.graph.Graph.{Graph}
 use Rattle.graph_model.specs.declared.graph.Side.{Side}
 use Rattle.graph_model.specs.declared.graph.Side.TheVariants.{In, Out}
 use Rattle.graph_model.proofs.PathLaws.{same_name}
-use Rattle.topology.proofs.TestGraphs.{fan_out}
+use Rattle.graph_model.proofs.Examples.{node, joined}
+use Rattle.topology.proofs.Examples.{fan_out}
 use Rattle.headroom.specs.declared.loud.TooLoud.{TooLoud}
 use Rattle.headroom.specs.Answers.{AreBounds, AllBounded}
 use Rattle.headroom.specs.Loud.{IsTooLoud}
 use Rattle.headroom.proofs.GraphTests.{below_by, all_bounded_by, too_loud_by}
 use Rattle.headroom.proofs.LoudFacts.{too_loud_refutes, too_loud_is_unique}
-use Rattle.headroom.proofs.TestGraphs.{row, row_order, loud, same, great, mixing, idle}
 
+-- ---- the graphs
+-- three gains of 16 and one more node, one after the other
+abbrev row : Kind → Graph
+row last = record {
+  nodes = node 1 (Input 1) ∷ node 2 (Output 1) ∷ node 3 (Gain 1 (pos 1048576)) ∷ node 4 (Gain 1 (pos 1048576)) ∷ node 5 (Gain 1 (pos 1048576)) ∷ node 6 last ∷ [];
+  connections = joined 1 0 3 0 ∷ joined 3 0 4 0 ∷ joined 4 0 5 0 ∷ joined 5 0 6 0 ∷ joined 6 0 2 0 ∷ [];
+}
+
+abbrev row_order : List ℕ
+row_order = 1 ∷ 3 ∷ 4 ∷ 5 ∷ 6 ∷ 2 ∷ []
+
+-- a gain of 16, a gain of one, and a filter with one great tap
+abbrev loud : Kind
+loud = Gain 1 (pos 1048576)
+
+abbrev same : Kind
+same = Gain 1 (pos 65536)
+
+abbrev great : Kind
+great = Fir 1 (pos 16777215 ∷ []) 0 0
+
+-- a mixer of two into three
+abbrev mixing : Graph
+mixing = record {
+  nodes = node 1 (Input 2) ∷ node 2 (Output 3) ∷ node 3 (Mixer 2 3 (pos 65536 ∷ pos 0 ∷ pos 131072 ∷ negsuc 65535 ∷ pos 0 ∷ pos 32768 ∷ [])) ∷ [];
+  connections = joined 1 0 3 0 ∷ joined 1 1 3 1 ∷ joined 3 0 2 0 ∷ joined 3 1 2 1 ∷ joined 3 2 2 2 ∷ [];
+}
+
+-- two filters that are too loud and lead nowhere, the later name first in the list
+abbrev idle : Graph
+idle = record {
+  nodes = node 1 (Input 1) ∷ node 2 (Output 1) ∷ node 9 great ∷ node 4 great ∷ [];
+  connections = joined 1 0 2 0 ∷ joined 1 0 9 0 ∷ joined 1 0 4 0 ∷ [];
+}
+
+-- ---- what is told of them
 abbrev bound : List ℕ → List ℕ → Bound
 bound is os = record { ins = is; outs = os }
 

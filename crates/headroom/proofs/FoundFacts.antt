@@ -9,6 +9,7 @@ use Rattle.std.proofs.lemmas.List.Folds.{find_at}
 use Rattle.std.proofs.lemmas.List.FromFn.{get_or-map-range_with_len, length-map-range_with_len}
 use Rattle.std.proofs.lemmas.List.Sums.{sum_by-cons, sum_by-append, position_or_len_is}
 use Rattle.std.proofs.lemmas.Option.{slice_get-get_or}
+use Rattle.graph_model.proofs.Common.{not_same}
 use Rattle.graph_model.specs.Bounds.{bounds, IsBounded}
 use Rattle.graph_model.specs.Graphs.{node_named, ins_at, or_zero, connections_to}
 use Rattle.graph_model.specs.Members.{bad_member}
@@ -28,7 +29,7 @@ use Rattle.graph_model.specs.declared.graph.Connection.{Connection}
 use Rattle.graph_model.specs.declared.graph.Graph.{Graph}
 use Rattle.graph_model.specs.Named.{IsNamed, uid_at}
 use Rattle.topology.specs.Answers.{IsOrderOfNodes}
-use Rattle.graph_model.proofs.NameFacts.{same_index, is_node, name_is, any_node}
+use Rattle.graph_model.proofs.NameFacts.{is_node, name_is, node_is, any_node}
 use Rattle.topology.proofs.LinkFacts.{any_connection}
 use Rattle.topology.proofs.OrderFacts.{stands_index}
 use Rattle.headroom.specs.declared.loud.TooLoud.{TooLoud}
@@ -42,22 +43,6 @@ use Rattle.headroom.proofs.LoudFacts.{kept_first_of}
 pub named : (g : Graph) → Fits g → IsShaped g → IsNamed g
 named g fits shaped = record { fits = fits; uids_differ = shaped.uids_differ; nodes_exist = nodes_exist g shaped }
 
-not_same : (a b : ℕ) → (a ≡ b → ⊥) → (a == b) ≡ false
-not_same a b ne = go (a == b) refl
-  where
-    go : (t : Bool) → (a == b) ≡ t → t ≡ false
-    go true e = absurd (ne (eqb-true a b e))
-    go false e = refl
-
--- the node of a name is the one that has it
-pub found_at : (g : Graph) → IsNamed g → (i : ℕ) → i < length g.nodes → node_named g (uid_at g i) ≡ Some (get_or g.nodes i any_node)
-found_at g named i lt =
-    let at : position_or_len (λ n. n.uid.0 == uid_at g i) g.nodes ≡ i
-    = position_or_len_is (λ n. n.uid.0 == uid_at g i) g.nodes i any_node (omega arith)
-    (λ j less. not_same (get_or g.nodes j any_node).uid.0 (uid_at g i) (λ e. let same = same_index g named j i (omega arith) lt (name_is g j (omega arith) ∙ e) in absurd (omega arith)))
-    (λ l. ap (λ v. v == uid_at g i) (sym (name_is g i lt)) ∙ same_name (uid_at g i)) in
-    find_at (λ n. n.uid.0 == uid_at g i) g.nodes ∙ ap (slice_get g.nodes) at ∙ slice_get-get_or g.nodes i any_node lt
-
 -- a node that was read at an index
 pub node_at : (g : Graph) (xs : List Node) (i : ℕ) (n : Node) → xs ≡ g.nodes → i < length g.nodes → n ≡ get_or xs i n → n ≡ get_or g.nodes i any_node
 node_at g xs i n same lt is = is ∙ ap (λ ys. get_or ys i n) same ∙ get_or_default g.nodes i n any_node lt
@@ -66,16 +51,7 @@ pub uid_of : (g : Graph) (i : ℕ) (n : Node) → i < length g.nodes → n ≡ g
 uid_of g i n lt is = ap (λ (m : Node). m.uid.0) is ∙ sym (name_is g i lt)
 
 pub named_at : (g : Graph) → IsNamed g → (i : ℕ) (n : Node) → i < length g.nodes → n ≡ get_or g.nodes i any_node → node_named g n.uid.0 ≡ Some n
-named_at g named i n lt is = ap (node_named g) (uid_of g i n lt is) ∙ found_at g named i lt ∙ ap Some (sym is)
-
--- no node before has the name, nor has this one
-pub none_named : (g : Graph) (k v : ℕ) (n : Node) → k < length g.nodes → n ≡ get_or g.nodes k any_node → (n.uid.0 ≡ v → ⊥) → ((i : ℕ) → i < k → uid_at g i ≡ v → ⊥)
-    → (i : ℕ) → i < k + 1 → uid_at g i ≡ v → ⊥
-none_named g k v n lt is other before i li e =
-    elim (cases_lt i k) [
-      | inl earlier ↦ before i earlier e
-      | inr past ↦ (let here : i ≡ k = omega arith in other (uid_of g k n lt is ∙ ap (uid_at g) (sym here) ∙ e))
-    ]
+named_at g named i n lt is = ap (node_named g) (uid_of g i n lt is) ∙ node_is g named i any_node lt ∙ ap Some (sym is)
 
 -- at most 32 channels on each side
 few_of : (kind : Kind) → HasRange kind → (ins_of kind ≤ 32) × (outs_of kind ≤ 32)

@@ -1,4 +1,4 @@
--- Tests of graphs that are written out: they compute, and where they pass a graph is shaped and has its order.
+-- Tests of graphs that are written out: they compute, and where they pass, a list is the order and bounds are small.
 use Rattle.std.proofs.Common.{◌≡◌, ℕ, zero, suc, ◌+◌, ◌^◌, ◌<◌, ◌≤◌, List, [], ◌∷◌, ◌++◌, length, map, take, get_or, not, Bool, true, false, ◌==◌, ◌&&◌, ◌||◌, refl, sym, ap, ◌∙◌, subst, arith, inl, inr, ◌⊎◌, None}
 use Rattle.std.specs.Prelude.{is_some, nat_lt, nat_le, count_by}
 use Rattle.std.specs.List.{AllByRecursion, Contains, list_all, list_any}
@@ -28,60 +28,6 @@ use Rattle.headroom.specs.Loud.{AreBelow, IsFirstOf, IsTooLoud}
 pub test_all : {X : Type 0} (p : X → Bool) (P : X → Type 0) → ((x : X) → p x ≡ true → P x) → (xs : List X) → list_all p xs ≡ true → AllByRecursion P xs
 test_all p P f [] e = tt
 test_all p P f (x ∷ xs) e = (f x (first_so _ _ e), test_all p P f xs (second_so _ _ e))
-
--- ---- connections
-abbrev same_ends : Connection → Connection → Bool
-same_ends c d = (c.src.0 == d.src.0) && ((c.src_channel == d.src_channel) && ((c.dst.0 == d.dst.0) && (c.dst_channel == d.dst_channel)))
-
-abbrev connects : Graph → List Connection → Connection → Bool
-connects g before c =
-    is_some (node_named g c.src.0)
-    && (is_some (node_named g c.dst.0)
-    && (not (c.src.0 == c.dst.0) && (nat_lt c.src_channel (outs_at g c.src.0) && (nat_lt c.dst_channel (ins_at g c.dst.0) && list_all (λ d. not (same_ends d c)) before))))
-
-abbrev pub all_connect : Graph → List Connection → List Connection → Bool
-all_connect g before [] = true
-all_connect g before (c ∷ cs) = connects g before c && all_connect g (before ++ c ∷ []) cs
-
-other_ends : (c d : Connection) → c ≡ d → same_ends c d ≡ false → ⊥
-other_ends c d e differ =
-    let test : same_ends d d ≡ true = and_both _ _ (same_name d.src.0) (and_both _ _ (same_name d.src_channel) (and_both _ _ (same_name d.dst.0) (same_name d.dst_channel))) in
-    false≢true (sym differ ∙ ap (λ x. same_ends x d) e ∙ test)
-
-new_in : (cs : List Connection) (c : Connection) → list_all (λ d. not (same_ends d c)) cs ≡ true → Contains cs c → ⊥
-new_in [] c e has = let l = has.1 in absurd (omega arith)
-new_in (d ∷ cs) c e has =
-    elim (first_or_later d c cs has) [
-      | inl same ↦ other_ends d c same (not-true _ (first_so _ _ e))
-      | inr there ↦ new_in cs c (second_so _ _ e) there
-    ]
-
-other_name : (u w : Uid) → u ≡ w → (u.0 == w.0) ≡ false → ⊥
-other_name u w e differ =
-    let same : u.0 ≡ w.0 = ap (λ (x : Uid). x.0) e in
-    false≢true (sym differ ∙ ap (λ n. n == w.0) same ∙ same_name w.0)
-
-connection_by : (g : Graph) (before : List Connection) (c : Connection) → connects g before c ≡ true → IsConnection g before c
-connection_by g before c e =
-    let two = second_so _ _ e in
-    let three = second_so _ _ two in
-    let four = second_so _ _ three in
-    let five = second_so _ _ four in
-    record {
-      source_exists = first_so _ _ e;
-      destination_exists = first_so _ _ two;
-      nodes_differ = λ same. other_name c.src c.dst same (not-true _ (first_so _ _ three));
-      source_channel = ltb-true _ _ (first_so _ _ four);
-      destination_channel = ltb-true _ _ (first_so _ _ five);
-      new = new_in before c (second_so _ _ five);
-    }
-
-connections_by : (g : Graph) (before rest : List Connection) → all_connect g before rest ≡ true → (k : ℕ) (d : Connection) → k < length rest
-    → IsConnection g (before ++ take k rest) (get_or rest k d)
-connections_by g before [] e k d lt = absurd (omega arith)
-connections_by g before (c ∷ rest) e zero d lt = subst (λ cs. IsConnection g cs c) (sym (append-nil before)) (connection_by g before c (first_so _ _ e))
-connections_by g before (c ∷ rest) e (suc k) d lt =
-    subst (λ cs. IsConnection g cs (get_or rest k d)) (append_assoc before (c ∷ []) (take k rest)) (connections_by g (before ++ c ∷ []) rest (second_so _ _ e) k d (omega arith))
 
 -- ---- the order
 abbrev stands : List ℕ → ℕ → ℕ → Bool
@@ -211,17 +157,6 @@ order_by g os e = record {
               | inl same ↦ subst (λ w. stands os (length os) w ≡ true) same (first_so _ _ p)
               | inr later ↦ go ns later (second_so _ _ p)
             ]
-
--- a named graph whose nodes and connections pass their tests, and that has an order, is shaped
-pub shaped_by : (g : Graph) (os : List ℕ) → IsNamed g → AllByRecursion (λ n. bad_member n ≡ None) g.nodes → count_by (λ n. is_input n.kind) g.nodes ≡ 1 → count_by (λ n. is_output n.kind) g.nodes ≡ 1
-    → all_connect g [] g.connections ≡ true → is_order g os ≡ true → IsShaped g
-shaped_by g os named range inputs outputs connected order = record {
-  uids_differ = named.uids_differ;
-  in_range = All-from_recursion (λ n. bad_member n ≡ None) g.nodes range;
-  ends = (inputs, outputs);
-  connections = λ k d lt. connections_by g [] g.connections connected k d lt;
-  acyclic = order_is_acyclic g os (order_by g os order);
-}
 
 -- ---- bounds
 abbrev below_limit : List ℕ → Bool

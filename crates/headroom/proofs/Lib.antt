@@ -2,5 +2,4 @@ pub mod OutputFacts
 pub mod LoudFacts
 pub mod FoundFacts
 pub mod GraphTests
-pub mod TestGraphs
 pub mod Examples

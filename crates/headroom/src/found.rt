@@ -3,7 +3,7 @@
 ghost use Rattle.std.specs.Prelude.{◌≡◌, ℕ, ◌^◌, ◌<◌, ◌≤◌, IfOk, IfErr, MatchResult, Some, get_or, length, replicate};
 ghost use Rattle.std.specs.List.{Contains};
 ghost use Rattle.graph_model.specs.Bounds.{bounds};
-ghost use Rattle.graph_model.specs.Graphs.{IsNode, node_named};
+ghost use Rattle.graph_model.specs.Graphs.{node_named};
 ghost use Rattle.graph_model.specs.Sound.{Fits, IsShaped};
 ghost use Rattle.graph_model.specs.Named.{uid_at};
 ghost use Rattle.topology.specs.Answers.{IsOrderOfNodes};
@@ -13,23 +13,9 @@ ghost use Rattle.headroom.specs.Answers.{AllBounded, AreBounds, IsTooLoudOf};
 
 use crate::loud::{TooLoud, too_loud};
 use crate::outputs::outputs_of;
-use graph_model::{Bound, Connection, Graph, List, Node, Refused, Uid};
+use graph_model::{Bound, Connection, Graph, List, Node, Refused};
 use std::alloc::{AllocError, Global};
-
-/// The index of the node of that name.
-fn index_of(graph: &Graph, uid: Uid) -> usize
-    requires { IsNode graph.now uid.0 }
-    ensures within { result < length graph.now.nodes }
-    ensures named { uid_at graph.now result ≡ uid.0 }
-{
-    let nodes = graph.nodes.as_slice();
-    for index in 0..nodes.len() {
-        if nodes[index].uid.0 == uid.0 {
-            return index;
-        }
-    }
-    unreachable!()
-}
+use topology::index_of;
 
 /// The bound of the output channel that a connection reads.
 fn bound_over(graph: &Graph, found: &[Bound], connection: &Connection) -> u64
@@ -147,12 +133,8 @@ pub fn bounds(
     ensures bounded { IfOk result (λ _. AllBounded graph.now) }
     ensures loud { IfErr result (IsTooLoudOf graph.now) }
 {
-    match found_or_loud(alloc, graph, order.as_slice()) {
-        Ok(Ok(found)) => match listed(alloc, found) {
-            Ok(bounds) => Ok(bounds),
-            Err(_) => Err(Refused::Memory),
-        },
-        Ok(Err(loud)) => Err(Refused::Fault(loud)),
-        Err(_) => Err(Refused::Memory),
+    match found_or_loud(alloc, graph, order.as_slice())? {
+        Ok(found) => Ok(listed(alloc, found)?),
+        Err(loud) => Err(Refused::Fault(loud)),
     }
 }

@@ -18,6 +18,3 @@ mod outputs;
 
 pub use found::bounds;
 pub use loud::TooLoud;
-
-#[cfg(test)]
-mod tests;

@@ -9,7 +9,7 @@ use Rattle.graph_model.specs.declared.graph.Graph.{Graph}
 use Rattle.graph_model.specs.Named.{uid_at}
 use Rattle.topology.specs.Links.{source, target, AreLinks}
 use Rattle.topology.specs.Blocks.{block_of}
-use Rattle.topology.specs.declared.links.Link.{Link}
+use Rattle.topology.specs.declared.ends.Link.{Link}
 use Rattle.graph_model.proofs.NameFacts.{same_uid}
 use Rattle.topology.proofs.LinkFacts.{source_is, target_is, connection_is, connection_at}
 

@@ -1,5 +1,5 @@
 -- The answers at a small graph: an insert of 5 into one channel of the output, beside a gain into three.
-use Rattle.std.proofs.Common.{◌≡◌, ℕ, zero, suc, ◌<◌, ◌≤◌, List, [], ◌∷◌, get_or, true, refl, ap, ◌∙◌, subst, arith}
+use Rattle.std.proofs.Common.{◌≡◌, ℕ, zero, suc, pos, ◌<◌, ◌≤◌, List, [], ◌∷◌, get_or, true, refl, ap, ◌∙◌, subst, arith}
 use Rattle.std.specs.Prelude.{reverse}
 use Rattle.std.proofs.lemmas.List.{reverse-reverse}
 use Rattle.std.proofs.lemmas.List.Elements.{All-from_recursion}
@@ -8,11 +8,22 @@ use Rattle.graph_model.specs.Orders.{StandsBefore, HasSources, IsNext}
 use Rattle.graph_model.specs.Paths.{IsPathTo, IsPrinted, IsPrintedPath, reach_within}
 use Rattle.graph_model.specs.declared.graph.Uid.{Uid}
 use Rattle.graph_model.specs.declared.graph.Connection.{Connection}
-use Rattle.graph_model.proofs.Examples.{joined}
+use Rattle.graph_model.specs.declared.kind.Kind.TheVariants.{Input, Output, Gain, Insert}
+use Rattle.graph_model.specs.declared.graph.Graph.{Graph}
+use Rattle.graph_model.proofs.Examples.{node, joined}
 use Rattle.graph_model.specs.Named.{uid_at}
 use Rattle.topology.specs.Answers.{IsOrderOfNodes, AreLive, IsReachOf}
 use Rattle.graph_model.proofs.NameFacts.{index_of}
-use Rattle.topology.proofs.TestGraphs.{fan_out}
+use Rattle.graph_model.proofs.Examples.{fan_out as insert_beside_gain}
+use Rattle.graph_model.proofs.ExampleSound.{sound}
+use Rattle.graph_model.proofs.NodeFacts.{named}
+use Rattle.topology.proofs.ReachFacts.{are_longest}
+
+abbrev pub fan_out : Graph
+fan_out = record {
+  nodes = node 1 (Input 1) ∷ node 2 (Output 3) ∷ node 3 (Insert 1 5) ∷ node 4 (Gain 1 (pos 65536)) ∷ [];
+  connections = joined 1 0 3 0 ∷ joined 3 0 2 0 ∷ joined 1 0 4 0 ∷ joined 4 0 2 0 ∷ joined 4 0 2 1 ∷ joined 4 0 2 2 ∷ [];
+}
 
 -- what holds of the four nodes holds of all, and so of the joints
 nodes_are : (P : ℕ → Type 0) → P 1 → P 2 → P 3 → P 4 → (w : ℕ) → IsNode fan_out w → P w
@@ -150,9 +161,10 @@ abbrev uid : ℕ → Uid
 uid v = record { 0 = v }
 
 over_the_insert : IsReachOf fan_out (record { at = 0 ∷ 5 ∷ 0 ∷ 0 ∷ []; path = uid 1 ∷ uid 3 ∷ uid 2 ∷ [] })
-unfolding reach_within
+unfolding insert_beside_gain reach_within
 over_the_insert = record {
   at = refl;
+  longest = are_longest fan_out (named fan_out sound) sound.shaped.acyclic (0 ∷ 5 ∷ 0 ∷ 0 ∷ []) refl;
   path = (
     3 ∷ 1 ∷ [],
     (

@@ -6,5 +6,4 @@ pub mod OutputFacts
 pub mod ReachFacts
 pub mod PathFacts
 pub mod LiveFacts
-pub mod TestGraphs
 pub mod Examples

@@ -15,7 +15,7 @@ use Rattle.topology.specs.Links.{source, target, no_link, AreLinks}
 use Rattle.topology.specs.Blocks.{is_taken}
 use Rattle.topology.specs.Marks.{AllLive, KeepsMarks, SpreadUpTo, IsSpread, SpreadsAlong}
 use Rattle.topology.specs.Answers.{AreLive}
-use Rattle.topology.specs.declared.links.Link.{Link}
+use Rattle.topology.specs.declared.ends.Link.{Link}
 use Rattle.graph_model.proofs.NameFacts.{same_index, is_node, name_is, any_node}
 use Rattle.topology.proofs.LinkFacts.{joined, link_of}
 

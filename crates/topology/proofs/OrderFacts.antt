@@ -15,7 +15,7 @@ use Rattle.topology.specs.Links.{source, target, AreLinks}
 use Rattle.topology.specs.Blocks.{block_of, is_taken, AreBlocks, Blocks, IsFree}
 use Rattle.topology.specs.Taken.{AreTaken}
 use Rattle.topology.specs.Answers.{IsOrderOfNodes}
-use Rattle.topology.specs.declared.links.Link.{Link}
+use Rattle.topology.specs.declared.ends.Link.{Link}
 use Rattle.graph_model.proofs.NameFacts.{same_index, index_of, is_node}
 use Rattle.topology.proofs.LinkFacts.{count, connection_at, any_connection, source_is, target_is, link_of}
 

@@ -18,7 +18,7 @@ use Rattle.graph_model.proofs.ReachLaws.{reach_is_longest, reach_after}
 use Rattle.graph_model.specs.Named.{IsNamed, uids_of, uid_at, latencies_of}
 use Rattle.topology.specs.Links.{source, target, AreLinks}
 use Rattle.topology.specs.Reaches.{given, IsTight, AreReaches, IsPathBack}
-use Rattle.topology.specs.declared.links.Link.{Link}
+use Rattle.topology.specs.declared.ends.Link.{Link}
 use Rattle.graph_model.proofs.NameFacts.{same_index, is_node, name_is, latency_is, any_node}
 use Rattle.topology.proofs.LinkFacts.{joined, link_of}
 use Rattle.topology.proofs.ReachFacts.{IsReachAt, rises, reach_small}

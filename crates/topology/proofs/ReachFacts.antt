@@ -1,12 +1,14 @@
 -- What the sources of a node give it is its reach.
 use Rattle.std.proofs.Common.{◌≡◌, ℕ, ◌+◌, ◌*◌, ◌^◌, ◌<◌, ◌≤◌, List, [], ◌∷◌, length, map, get_or, set, sym, ap, ◌∙◌, subst, arith, inl, inr, ◌⊎◌}
-use Rattle.std.proofs.lemmas.List.Elements.{All-contains}
+use Rattle.std.proofs.lemmas.List.Elements.{All-contains, recursion_from_All}
+use Rattle.std.specs.Prelude.{is_some}
+use Rattle.std.specs.List.{AllZip, AllByRecursion}
 use Rattle.graph_model.specs.Orders.{StandsBefore}
 use Rattle.std.proofs.lemmas.List.{get_or-set_same, get_or-set_other, get_or-map, ext_get_or, length-map, length-set}
 use Rattle.std.proofs.lemmas.List.Sums.{sum_by-cons}
 use Rattle.std.proofs.lemmas.Bool.{cases_lt, cases_eq}
 use Rattle.graph_model.specs.Graphs.{IsNode, IsRanked, latency_at}
-use Rattle.graph_model.specs.Paths.{IsPathTo, IsAcyclic, latencies, reach, depth}
+use Rattle.graph_model.specs.Paths.{IsPathTo, IsAcyclic, IsReach, latencies, reach, depth}
 use Rattle.graph_model.specs.declared.graph.Node.{Node}
 use Rattle.graph_model.specs.declared.graph.Graph.{Graph}
 use Rattle.graph_model.proofs.RankLaws.{ranked, path_short, node_of}
@@ -15,8 +17,8 @@ use Rattle.graph_model.specs.Named.{IsNamed, uid_at, latencies_of}
 use Rattle.topology.specs.Links.{source, target, AreLinks}
 use Rattle.topology.specs.Reaches.{given, IsPulled, AreReaches}
 use Rattle.topology.specs.Answers.{IsOrderOfNodes}
-use Rattle.topology.specs.declared.links.Link.{Link}
-use Rattle.graph_model.proofs.NameFacts.{same_index, index_of, is_node, name_is, latency_is, any_node}
+use Rattle.topology.specs.declared.ends.Link.{Link}
+use Rattle.graph_model.proofs.NameFacts.{named_there, same_index, index_of, is_node, name_is, latency_is, any_node}
 use Rattle.topology.proofs.LinkFacts.{joined, link_of}
 use Rattle.topology.proofs.OrderFacts.{order_is_acyclic, stands_index}
 
@@ -24,9 +26,21 @@ use Rattle.topology.proofs.OrderFacts.{order_is_acyclic, stands_index}
 abbrev pub IsReachAt : Graph → List ℕ → ℕ → Type 0
 IsReachAt g at i = get_or at i 0 ≡ reach g (uid_at g i)
 
+-- a list beside what f gives of each of its items
+zip_map : {A B : Type 0} (R : A → B → Type 0) (f : A → B) (xs : List A) → AllByRecursion (λ x. R x (f x)) xs → AllZip R xs (map f xs)
+zip_map R f [] h = tt
+zip_map R f (x ∷ xs) h = (h.0, zip_map R f xs h.1)
+
 module _ (g : Graph) (named : IsNamed g) (acyclic : IsAcyclic g) where
   pub rises : IsRanked (depth g) g
   rises = ranked g named.nodes_exist acyclic
+
+  -- the reaches are the sums of paths, which no path exceeds
+  pub are_longest : (at : List ℕ) → AreReaches g at → AllZip (λ n m. IsReach g n.uid.0 m) g.nodes at
+  are_longest at are =
+      subst (AllZip (λ n m. IsReach g n.uid.0 m) g.nodes) (sym are)
+      (zip_map (λ (n : Node) m. IsReach g n.uid.0 m) (λ n. reach g n.uid.0) g.nodes (recursion_from_All (λ n. IsReach g n.uid.0 (reach g n.uid.0)) g.nodes
+      (λ k d lt. reach_is_longest g (depth g) rises (get_or g.nodes k d).uid.0 (ap is_some (named_there g named k d lt)))))
 
   -- a latency fits 32 bits
   latency_small : ((i : ℕ) → get_or (latencies_of g) i 0 < 2 ^ 32) → (u : ℕ) → IsNode g u → latency_at g u < 2 ^ 32

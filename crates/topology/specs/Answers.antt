@@ -3,7 +3,7 @@ use Rattle.std.specs.Prelude.{◌≡◌, ℕ, ◌<◌, ◌↔◌, IsTrue, Bool, 
 use Rattle.std.specs.List.{All, AllZip}
 use Rattle.graph_model.specs.Checks.{IsClosedWalk}
 use Rattle.graph_model.specs.Orders.{IsOrder}
-use Rattle.graph_model.specs.Paths.{IsLive, IsAcyclic, IsPrintedPath, reach}
+use Rattle.graph_model.specs.Paths.{IsLive, IsAcyclic, IsPrintedPath, IsReach, reach}
 use Rattle.graph_model.specs.declared.graph.Graph.{Graph}
 use Rattle.graph_model.specs.declared.refused.Refused.{Refused}
 use Rattle.graph_model.specs.declared.refused.Refused.TheVariants.{Fault, Memory}
@@ -25,7 +25,8 @@ IsCycleOf g Memory = Unit {0}
 abbrev pub AreLive : Graph → List Bool → Type 0
 AreLive g marks = AllZip (λ n live. IsTrue live ↔ IsLive g n.uid.0) g.nodes marks
 
--- the reach of each node, and the printed path
+-- the reach of each node, which is the sum of a path into it and which no path exceeds, and the printed path
 pub record IsReachOf (g : Graph) (r : Reach) : Type 0 where
   pub at : r.at ≡ map (λ n. reach g n.uid.0) g.nodes
+  pub longest : AllZip (λ n m. IsReach g n.uid.0 m) g.nodes r.at
   pub path : IsPrintedPath g r.path

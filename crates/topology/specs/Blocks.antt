@@ -1,6 +1,6 @@
 -- What stands in the way of a node.
 use Rattle.std.specs.Prelude.{ℕ, ◌≡◌, ◌<◌, ◌≤◌, ◌≢◌, List, length, get_or, Option, None, Bool, true, false, MatchOption}
-use Rattle.topology.specs.declared.links.Link.{Link}
+use Rattle.topology.specs.declared.ends.Link.{Link}
 use Rattle.topology.specs.Links.{source, target}
 
 abbrev pub is_taken : List Bool → ℕ → Bool

@@ -7,11 +7,7 @@ use Rattle.graph_model.specs.declared.graph.Graph.{Graph}
 use Rattle.graph_model.specs.Named.{IsNamed, HasOneOutput}
 use Rattle.topology.specs.Answers.{AreLive}
 
--- there is one order at most
-abbrev pub OrderIsUnique : Type 0
-OrderIsUnique = (g : Graph) (a b : List ℕ) → IsOrder g a → IsOrder g b → a ≡ b
-
--- and none where there is a closed walk
+-- there is no order where there is a closed walk
 abbrev pub ClosedWalkHasNoOrder : Type 0
 ClosedWalkHasNoOrder = (g : Graph) → IsNamed g → (walk order : List ℕ) → IsClosedWalk g walk → IsOrder g order → ⊥
 

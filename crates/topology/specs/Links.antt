@@ -2,7 +2,7 @@
 use Rattle.std.specs.Prelude.{ℕ, ◌≡◌, ◌<◌, List, length, get_or, map}
 use Rattle.graph_model.specs.declared.graph.Graph.{Graph}
 use Rattle.graph_model.specs.Named.{uid_at}
-use Rattle.topology.specs.declared.links.Link.{Link}
+use Rattle.topology.specs.declared.ends.Link.{Link}
 
 abbrev pub no_link : Link
 no_link = record { from = 0; to = 0 }

@@ -2,7 +2,7 @@
 use Rattle.std.specs.Prelude.{ℕ, ◌≡◌, ◌<◌, List, length, Bool, true, false, slice_set}
 use Rattle.graph_model.specs.Paths.{IsLive}
 use Rattle.graph_model.specs.declared.graph.Graph.{Graph}
-use Rattle.topology.specs.declared.links.Link.{Link}
+use Rattle.topology.specs.declared.ends.Link.{Link}
 use Rattle.graph_model.specs.Named.{uid_at}
 use Rattle.topology.specs.Links.{source, target}
 use Rattle.topology.specs.Blocks.{is_taken}

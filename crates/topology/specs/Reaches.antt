@@ -4,7 +4,7 @@ use Rattle.graph_model.specs.Graphs.{output_name}
 use Rattle.graph_model.specs.Paths.{IsPrinted, reach}
 use Rattle.graph_model.specs.declared.graph.Uid.{Uid}
 use Rattle.graph_model.specs.declared.graph.Graph.{Graph}
-use Rattle.topology.specs.declared.links.Link.{Link}
+use Rattle.topology.specs.declared.ends.Link.{Link}
 use Rattle.topology.specs.Links.{source, target}
 
 -- what the source of link e gives: the number at it with its latency

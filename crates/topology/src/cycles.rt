@@ -4,7 +4,7 @@ ghost use Rattle.graph_model.specs.declared.graph.Graph.{Graph};
 ghost use Rattle.topology.specs.Links.{AreLinks, AreWithin};
 ghost use Rattle.topology.specs.Blocks.{AreBlocks, AllBlocked, is_taken};
 
-use crate::links::Link;
+use crate::ends::Link;
 use graph_model::List;
 use std::alloc::{AllocError, Global};
 

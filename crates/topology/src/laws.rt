@@ -1,13 +1,8 @@
 //! Laws of the definitions.
 
-ghost use Rattle.topology.specs.Laws.{OrderIsUnique, ClosedWalkHasNoOrder, LiveIsListed};
+ghost use Rattle.topology.specs.Laws.{ClosedWalkHasNoOrder, LiveIsListed};
 
-/// A graph has one order at most.
-pub fn order_is_unique()
-    ensures { OrderIsUnique }
-{}
-
-/// A graph with a closed walk has none.
+/// A graph with a closed walk has no order.
 pub fn closed_walk_has_no_order()
     ensures { ClosedWalkHasNoOrder }
 {}

@@ -1,30 +1,16 @@
+//! Live nodes, found by marks that spread from the output.
+
 ghost use Rattle.std.specs.Prelude.{◌≡◌, ◌<◌, length, IfOk, MatchBool, count_by, not};
-ghost use Rattle.std.specs.List.{position};
-ghost use Rattle.graph_model.specs.Graphs.{is_output, output_name};
+ghost use Rattle.graph_model.specs.Graphs.{output_name};
 ghost use Rattle.graph_model.specs.Named.{IsNamed, HasOneOutput, uid_at};
 ghost use Rattle.graph_model.specs.declared.graph.Graph.{Graph};
 ghost use Rattle.topology.specs.Links.{AreLinks, AreWithin};
 ghost use Rattle.topology.specs.Marks.{AllLive, IsSpread, KeepsMarks, SpreadsAlong};
 ghost use Rattle.topology.specs.Answers.{AreLive};
 
-use crate::links::{Link, links};
-use graph_model::{Graph, Kind, List, Node};
+use crate::ends::{Link, links};
+use graph_model::{Graph, List};
 use std::alloc::{AllocError, Global};
-
-/// Whether it is an output node.
-fn gives_output(node: &Node) -> bool
-    ensures { result ≡ is_output node.now.kind }
-{
-    matches!(node.kind, Kind::Output { .. })
-}
-
-/// The index of the first output node.
-fn first_output(graph: &Graph) -> Option<usize>
-    ensures { result ≡ position (λ n. is_output n.kind) graph.now.nodes }
-{
-    let nodes = graph.nodes.as_slice();
-    nodes.iter().position(|node| gives_output(node))
-}
 
 /// The index of the output node.
 pub(crate) fn output_index(graph: &Graph) -> usize
@@ -32,7 +18,7 @@ pub(crate) fn output_index(graph: &Graph) -> usize
     ensures within { result < length graph.now.nodes }
     ensures name { uid_at graph.now result ≡ output_name graph.now }
 {
-    first_output(graph).unwrap()
+    graph.output_index().unwrap()
 }
 
 /// Marks the source of a link whose target is marked, and says whether that is a new mark.

@@ -8,7 +8,7 @@ ghost use Rattle.topology.specs.Taken.{AreTaken};
 ghost use Rattle.topology.specs.Answers.{IsOrderOfNodes, IsCycleOf};
 
 use crate::cycles::{Cycle, closed_walk};
-use crate::links::{Link, links, uids};
+use crate::ends::{Link, links, uids};
 use graph_model::{Graph, List, Refused};
 use std::alloc::{AllocError, Global};
 
@@ -114,9 +114,8 @@ pub fn order(alloc: Global, graph: &Graph) -> Result<List<u32>, Refused<Cycle>>
     ensures acyclic { IfOk result (λ _. IsAcyclic graph.now) }
     ensures cycle { IfErr result (IsCycleOf graph.now) }
 {
-    match order_or_cycle(alloc, graph) {
-        Ok(Ok(order)) => Ok(order),
-        Ok(Err(cycle)) => Err(Refused::Fault(cycle)),
-        Err(_) => Err(Refused::Memory),
+    match order_or_cycle(alloc, graph)? {
+        Ok(order) => Ok(order),
+        Err(cycle) => Err(Refused::Fault(cycle)),
     }
 }

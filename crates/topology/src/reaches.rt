@@ -6,7 +6,7 @@ ghost use Rattle.topology.specs.Reaches.{IsPulled, IsFirstTight, AreReaches, IsP
 ghost use Rattle.topology.specs.Answers.{IsOrderOfNodes, IsReachOf};
 
 use crate::cycles::reversed;
-use crate::links::{Link, links, uids};
+use crate::ends::{Link, links, uids};
 use crate::marks::output_index;
 use graph_model::{Graph, List, Uid, latency};
 use std::alloc::{AllocError, Global};

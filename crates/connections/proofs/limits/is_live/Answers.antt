@@ -1,6 +1,8 @@
-use Rattle.connections.proofs.LimitFacts.{none_named}
+use Rattle.std.proofs.Common.{◌∙◌, ap, refl, false}
+use Rattle.graph_model.specs.Paths.{is_live}
+use Rattle.connections.proofs.NodeFacts.{kept_at}
 use Rattle.connections.proofs.limits.is_live.Goals as goal
 
-pub unreachable-requires : goal.unreachable-requires
-unreachable-requires c =
-    none_named c.args.graph.now c.as_slice-nodes.result.now c.args.uid.0 c.loop-index.index c.as_slice-nodes.ensures c.loop-index-test.false c.requires.node c.loop-index.invariant
+pub returns : goal.returns
+returns c =
+    kept_at is_live c.args.graph.now c.args.graph.now c.args.live.now c.index_of.result false refl c.index_of.ensures.within c.requires.live ∙ ap (is_live c.args.graph.now) c.index_of.ensures.name

@@ -4,7 +4,7 @@ use Rattle.topology.proofs.OutputFacts.{output_found, output_named}
 use Rattle.topology.proofs.marks.output_index.Goals as goal
 
 pub unwrap-requires : goal.unwrap-requires
-unwrap-requires c = ap is_some (c.first_output.ensures ∙ output_found c.args.graph.now c.requires)
+unwrap-requires c = ap is_some (c.output_index.ensures ∙ output_found c.args.graph.now c.requires)
 
 pub returns-clause-name : goal.returns-clause-name
-returns-clause-name c = output_named c.args.graph.now c.requires c.unwrap.result (sym c.first_output.ensures ∙ c.unwrap.ensures)
+returns-clause-name c = output_named c.args.graph.now c.requires c.unwrap.result (sym c.output_index.ensures ∙ c.unwrap.ensures)

@@ -1,6 +1,0 @@
-use Rattle.std.proofs.Common.{◌≡◌, ◌++◌}
-use Rattle.headroom.proofs.tests.graph_of.Given as goal
-
--- those taken so far, and then the rest
-abbrev pub invariant-loop-node : goal.invariant-loop-node
-invariant-loop-node l = l.list ++ l.node-iterator.rest.items ≡ l.fn.nodes.items
