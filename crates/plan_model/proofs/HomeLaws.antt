@@ -44,10 +44,11 @@ found_home (i ∷ homes) x h e = go (is_home_of x.uid.0 x.channel i) refl (found
         → cond b (Some i) (find (is_home_of x.uid.0 x.channel) homes) ≡ Some h → Contains (i ∷ homes) h × (port h ≡ x)
     go true t rest f =
         let same : i ≡ h = cc in
+        let first : Contains (i ∷ homes) h = (0, omega arith, same) in
         let u : i.uid.0 ≡ x.uid.0 = eqb-true _ _ (first_so _ _ t) in
         let c : i.channel ≡ x.channel = eqb-true _ _ (second_so _ _ t) in
         let is : port i ≡ x = λ k. record { uid = record { 0 = u k }; channel = c k } in
-        ((0, omega arith, same), ap port (sym same) ∙ is)
+        (first, ap port (sym same) ∙ is)
     go false t rest f = let r = rest f in (at_tail i h homes r.0, r.1)
 
 -- the home that gives a channel its buffer
