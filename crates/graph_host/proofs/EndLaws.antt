@@ -3,6 +3,7 @@ use Rattle.std.proofs.Common.{◌≡◌, ℕ, ℤ, List, take, Option, Some, Non
 use Rattle.std.specs.Prelude.{Ok, Err}
 use Rattle.graph_model.specs.declared.graph.Graph.{Graph}
 use Rattle.gh_outside.specs.Holdings.{Holding, Holds, HeldBytes, IsMissing, IsPast}
+use Rattle.wav_pcm.specs.Heads.{most_data}
 use Rattle.wav_pcm.specs.Files.{ReadsAs, data_size, recorded}
 use Rattle.wav_pcm.specs.declared.head.Head.{Head}
 use Rattle.wav_pcm.specs.declared.head.WavFault.{WavFault}
@@ -45,7 +46,7 @@ for_graph q g None found end i = inr i
 for_graph q g (Some files) found end i = inr (g, found, i)
 
 -- ---- what a run leaves
-module _ (q : Request) (g : Graph) (head : Head) (samples : List ℤ) (bytes : List ℕ) (is : bytes ≡ output_of q g head samples) (short : data_bytes q g head ≤ 4294967258) where
+module _ (q : Request) (g : Graph) (head : Head) (samples : List ℤ) (bytes : List ℕ) (is : bytes ≡ output_of q g head samples) (short : data_bytes q g head ≤ most_data) where
   pub written : (old new : Option Holding) → FindsGraph q.graph g old → FindsRecording q.input g head samples old → Holds q.output bytes new → IsWritten q old new
   written None new graph recording holds = tt
   written (Some old) None graph recording holds = tt
@@ -65,12 +66,12 @@ module _ (q : Request) (g : Graph) (head : Head) (samples : List ℤ) (bytes : L
 -- the same of what is rendered
 module _ (q : Request) (g : Graph) (form : Form) (samples : List ℤ) (bytes : List ℕ) (old : Option Holding) (sound : IsSound g)
     (read : (h : Head) × IsFormOf q g h form × IsInput q.input g h form.silent samples old)
-    (few : written_frames form * (form.channels * (form.bits / 8)) ≤ 4294967258) (made : bytes ≡ rendered g form samples) (graph : FindsGraph q.graph g old) where
+    (few : written_frames form * (form.channels * (form.bits / 8)) ≤ most_data) (made : bytes ≡ rendered g form samples) (graph : FindsGraph q.graph g old) where
   bytes_is : bytes ≡ output_of q g read.0 read.2.recorded
   bytes_is = made ∙ output_is q g read.0 form read.2.recorded samples (ins_range g sound).0 read.1 read.2.whole read.2.silent
 
-  few_bytes : data_bytes q g read.0 ≤ 4294967258
-  few_bytes = subst (λ n. n ≤ 4294967258) (bytes_are q g read.0 form read.1) few
+  few_bytes : data_bytes q g read.0 ≤ most_data
+  few_bytes = subst (λ n. n ≤ most_data) (bytes_are q g read.0 form read.1) few
 
   pub is_written : (new : Option Holding) → Holds q.output bytes new → IsWritten q old new
   is_written new holds = written q g read.0 read.2.recorded bytes bytes_is few_bytes old new graph read.2.found holds

@@ -11,6 +11,7 @@ use Rattle.connections.proofs.FaultFacts.{stage, fails, all_checks}
 use Rattle.connections.proofs.FirstFaults.{first_fault_is_unique}
 use Rattle.connections.specs.declared.fault.GraphFault.{GraphFault}
 use Rattle.gh_outside.specs.Holdings.{Holding}
+use Rattle.wav_pcm.specs.Heads.{most_data}
 use Rattle.wav_pcm.specs.Files.{ReadsAs}
 use Rattle.wav_pcm.proofs.HeadLaws.{reading_is_one}
 use Rattle.wav_pcm.specs.declared.head.Head.{Head}
@@ -155,14 +156,14 @@ input_ends q g files Memory b r other = absurd r
 
 -- an input that is read has no end of its own
 input_is_read : (q : Request) (g h : Graph) (head : Head) (bytes : List ℕ) (files : Holding) → g ≡ h → files q.input ≡ Some bytes → ReadsAs (in_channels g) bytes (Ok head)
-    → data_bytes q g head ≤ 4294967258 → (a : End) → IsInputEnd q h (Some files) a → ⊥
+    → data_bytes q g head ≤ most_data → (a : End) → IsInputEnd q h (Some files) a → ⊥
 input_is_read q g h head bytes files same at reads short a end =
     let w = of_bytes q g bytes files at a (subst (λ x. IsInputEnd q x (Some files) a) (sym same) end) in
     elim w.2 [
       | inl r ↦ ok_err (one_answer (in_channels g) bytes (Ok head) (Err w.0) reads r)
       | inr (k, r, long, is) ↦
           let is_head : head ≡ k = ok_same (one_answer (in_channels g) bytes (Ok head) (Ok k) reads r) in
-          let more : 4294967258 < data_bytes q g head = subst (λ x. 4294967258 < data_bytes q g x) (sym is_head) long in
+          let more : most_data < data_bytes q g head = subst (λ x. most_data < data_bytes q g x) (sym is_head) long in
           absurd (omega arith)
     ]
 

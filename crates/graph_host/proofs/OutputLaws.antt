@@ -10,7 +10,7 @@ use Rattle.graph_model.proofs.HistoryLaws.{length-history_of}
 use Rattle.graph_model.proofs.BlockLaws.{length-frames_of, frames_of-append, interleaved_are_frames}
 use Rattle.graph_model.proofs.Interleaving.{wide-history_of, length-interleaved}
 use Rattle.std.proofs.lemmas.List.{append-nil, get_or-replicate, length-drop, length-replicate, replicate-append-replicate}
-use Rattle.wav_pcm.specs.Heads.{head_of, wave_file_of}
+use Rattle.wav_pcm.specs.Heads.{head_of, wave_file_of, most_data}
 use Rattle.wav_pcm.specs.declared.head.Head.{Head}
 use Rattle.wav_pcm.specs.Samples.{bytes_of, IsSize}
 use Rattle.graph_model.specs.Graphs.{in_channels, out_channels}
@@ -48,7 +48,7 @@ some_bytes bits size = elim size [
 ]
 
 -- no more frames than bytes
-pub few_frames : (form : Form) → IsForm form → written_frames form * (form.channels * (form.bits / 8)) ≤ 4294967258 → written_frames form ≤ 4294967258
+pub few_frames : (form : Form) → IsForm form → written_frames form * (form.channels * (form.bits / 8)) ≤ most_data → written_frames form ≤ most_data
 few_frames form good short =
     let one = some_bytes form.bits good.size in
     let each : 1 * (form.bits / 8) ≤ form.channels * (form.bits / 8) = mul-le-mul_right (form.bits / 8) good.channels_least in

@@ -6,6 +6,7 @@ use Rattle.connections.specs.Faults.{IsFirstFault}
 use Rattle.connections.specs.Laws.{without_walk}
 use Rattle.gh_outside.specs.Holdings.{Holding}
 use Rattle.wav_pcm.specs.Files.{ReadsAs}
+use Rattle.wav_pcm.specs.Heads.{most_data}
 use Rattle.wav_pcm.specs.declared.head.Head.{Head}
 use Rattle.wav_pcm.specs.declared.head.WavFault.{WavFault}
 use Rattle.wav_pcm.specs.declared.head.WavFault.TheVariants.{TooLong}
@@ -35,7 +36,7 @@ IsGraphEnd name (Some files) end = ⊥
 abbrev pub HasWavFault : Request → Graph → List ℕ → WavFault → Type 0
 HasWavFault q g bytes fault =
     ReadsAs (in_channels g) bytes (Err fault)
-    ⊎ ((head : Head) × ReadsAs (in_channels g) bytes (Ok head) × (2 ^ 32 - 38 < data_bytes q g head)
+    ⊎ ((head : Head) × ReadsAs (in_channels g) bytes (Ok head) × (most_data < data_bytes q g head)
     × (fault ≡ TooLong (min (data_bytes q g head) (2 ^ 64 - 1))))
 
 -- the input ends it so, for a graph

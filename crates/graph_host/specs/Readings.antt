@@ -5,6 +5,7 @@ use Rattle.graph_model.specs.declared.graph.Graph.{Graph}
 use Rattle.graph_records.specs.Walk.{walk}
 use Rattle.gh_outside.specs.Holdings.{Holding}
 use Rattle.wav_pcm.specs.Files.{ReadsAs, recorded}
+use Rattle.wav_pcm.specs.Heads.{most_data}
 use Rattle.wav_pcm.specs.declared.head.Head.{Head}
 use Rattle.graph_model.specs.Graphs.{in_channels}
 use Rattle.graph_host.specs.Outputs.{data_bytes, output_of}
@@ -30,7 +31,7 @@ pub record HoldsRecording (name : List ℕ) (g : Graph) (head : Head) (samples :
 pub record IsJob (q : Request) (g : Graph) (head : Head) (samples : List ℤ) (files : Holding) : Type 0 where
   pub graph : HoldsGraph q.graph g files
   pub recording : HoldsRecording q.input g head samples files
-  pub short : data_bytes q g head ≤ 2 ^ 32 - 38
+  pub short : data_bytes q g head ≤ most_data
 
 -- ---- where the folder tells what it holds
 

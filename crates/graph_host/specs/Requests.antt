@@ -1,6 +1,7 @@
 -- What the words ask for.
-use Rattle.std.specs.Prelude.{ℕ, List, [], ◌∷◌, Option, Some, None, Bool, false, true, if◌then◌else◌, not, ◌&&◌, ◌||◌, codes, ◌==◌, nat_le, length, option_map, option_and_then}
+use Rattle.std.specs.Prelude.{ℕ, List, [], ◌∷◌, Option, Some, None, Bool, false, true, if◌then◌else◌, not, ◌&&◌, codes, ◌==◌, nat_le, length, option_map, option_and_then}
 use Rattle.std.specs.Str.{bytes_eq}
+use Rattle.wav_pcm.specs.Samples.{is_size}
 use Rattle.graph_host.specs.Numbers.{number_that}
 use Rattle.graph_host.specs.declared.request.Options.{Options as Said}
 use Rattle.graph_host.specs.declared.request.RenderRequest.{RenderRequest}
@@ -33,9 +34,6 @@ taken option (word ∷ value ∷ rest) = if bytes_eq word option then (Some valu
 abbrev pub tail_of : Option (List ℕ) → Option ℕ
 tail_of None = Some 0
 tail_of (Some t) = number_that (λ n. nat_le n 4294967295) t
-
-abbrev pub is_size : ℕ → Bool
-is_size n = (n == 8) || (n == 16) || (n == 24) || (n == 32)
 
 abbrev pub bits_of : Option (List ℕ) → Option (Option ℕ)
 bits_of None = Some None

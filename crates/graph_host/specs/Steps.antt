@@ -4,6 +4,7 @@ use Rattle.graph_model.specs.declared.graph.Graph.{Graph}
 use Rattle.connections.specs.Faults.{IsFirstFault}
 use Rattle.gh_outside.specs.Holdings.{Holding, Holds}
 use Rattle.wav_pcm.specs.Files.{ReadsAs}
+use Rattle.wav_pcm.specs.Heads.{most_data}
 use Rattle.wav_pcm.specs.declared.head.Head.{Head}
 use Rattle.wav_pcm.specs.declared.head.WavFault.TheVariants.{TooLong}
 use Rattle.graph_host.specs.Causes.{IsRefusal}
@@ -44,7 +45,7 @@ IsHeadEnd name g (Some files) end = ⊥
 
 -- the output has more bytes of frames than a WAV file can
 abbrev pub IsTooLong : Request → Graph → Head → End → Type 0
-IsTooLong q g head end = (2 ^ 32 - 38 < data_bytes q g head) × (end ≡ Wav (TooLong (min (data_bytes q g head) (2 ^ 64 - 1))))
+IsTooLong q g head end = (most_data < data_bytes q g head) × (end ≡ Wav (TooLong (min (data_bytes q g head) (2 ^ 64 - 1))))
 
 -- the name holds a file with this head and these samples
 abbrev pub FindsRecording : List ℕ → Graph → Head → List ℤ → Option Holding → Type 0

@@ -1,12 +1,13 @@
 //! The output file, made in memory and then written.
 
-ghost use Rattle.std.specs.Prelude.{◌≡◌, ◌*◌, ◌/◌, ◌%◌, ◌^◌, ◌<◌, ◌≤◌, ◌⊎◌, IfOk, OnOk, OnErr, drop, length, replicate, unsigned_abs};
-ghost use Rattle.std.specs.List.{All};
+ghost use Rattle.std.specs.Prelude.{◌≡◌, ◌*◌, ◌/◌, ◌%◌, ◌^◌, ◌<◌, ◌≤◌, ◌⊎◌, IfOk, OnOk, OnErr, drop, length, replicate};
 ghost use Rattle.graph_model.specs.Answers.{answer};
+ghost use Rattle.graph_model.specs.Bounds.{AreUpTo};
 ghost use Rattle.graph_model.specs.Histories.{frames_of, interleaved};
 ghost use Rattle.graph_model.specs.Sound.{IsSound};
 ghost use Rattle.gh_outside.specs.Causes.{Rose};
 ghost use Rattle.gh_outside.specs.Holdings.{Holds, IsMissing, KeepsOthers};
+ghost use Rattle.wav_pcm.specs.Heads.{most_data};
 ghost use Rattle.wav_pcm.specs.Samples.{bytes_of};
 ghost use Rattle.graph_model.specs.Graphs.{in_channels, out_channels};
 ghost use Rattle.graph_host.specs.Files.{file_of, rendered, HasRoom};
@@ -48,7 +49,7 @@ fn without_first(alloc: Global, samples: List<i64>, count: usize) -> Result<List
 fn aligned_answer(alloc: Global, graph: &Checked, samples: &[i64]) -> Result<List<i64>, AllocError>
     requires sound { IsSound graph.now }
     requires whole { length samples.now % in_channels graph.now ≡ 0 }
-    requires small { All (λ x. unsigned_abs x ≤ 2 ^ 31) samples.now }
+    requires small { AreUpTo (2 ^ 31) samples.now }
     ensures { IfOk result (λ v. v ≡ interleaved (answer graph.now (frames_of (in_channels graph.now) samples.now))) }
 {
     let aligned = align(alloc, graph)?;
@@ -64,10 +65,10 @@ pub(crate) fn rendered_file(
     requires sound { IsSound graph.now }
     requires form { IsForm recording.now.form }
     requires channels { recording.now.form.channels ≡ out_channels graph.now }
-    requires short { written_frames recording.now.form * (recording.now.form.channels * (recording.now.form.bits / 8)) ≤ 4294967258 }
+    requires short { written_frames recording.now.form * (recording.now.form.channels * (recording.now.form.bits / 8)) ≤ most_data }
     requires few { (recording.now.form.frames ≤ 2 ^ 33) × (recording.now.form.skipped ≤ recording.now.form.frames) }
     requires whole { length recording.now.samples.items ≡ recording.now.form.frames * in_channels graph.now }
-    requires small { All (λ x. unsigned_abs x ≤ 2 ^ 31) recording.now.samples.items }
+    requires small { AreUpTo (2 ^ 31) recording.now.samples.items }
     ensures file { IfOk result (λ o. file_of o ≡ rendered graph.now recording.now.form recording.now.samples.items) }
     ensures room { IfOk result HasRoom }
 {

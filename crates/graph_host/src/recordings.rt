@@ -1,10 +1,11 @@
 //! The input of a request.
 
-ghost use Rattle.std.specs.Prelude.{◌≡◌, ◌+◌, ◌*◌, ◌/◌, ◌^◌, ◌<◌, ◌≤◌, IfOk, IfErr, length, pos, replicate, unsigned_abs};
-ghost use Rattle.std.specs.List.{All};
+ghost use Rattle.std.specs.Prelude.{◌≡◌, ◌+◌, ◌*◌, ◌/◌, ◌^◌, ◌<◌, ◌≤◌, IfOk, IfErr, length, pos, replicate};
+ghost use Rattle.graph_model.specs.Bounds.{AreUpTo};
 ghost use Rattle.gh_outside.specs.Causes.{Rose};
 ghost use Rattle.gh_outside.specs.Holdings.{HeldBytes, IsPast};
 ghost use Rattle.wav_pcm.specs.Files.{data_size, recorded, IsHead};
+ghost use Rattle.wav_pcm.specs.Heads.{most_data};
 ghost use Rattle.graph_host.specs.Causes.{IsInputEnd, Stops};
 ghost use Rattle.graph_host.specs.Forms.{written_frames, HasSize, IsForm, IsFormOf};
 ghost use Rattle.graph_model.specs.Graphs.{in_channels};
@@ -19,10 +20,7 @@ use crate::request::RenderRequest;
 use connections::Checked;
 use gh_outside::{Failed, Folder};
 use std::alloc::{AllocError, Global};
-use wav_pcm::{Head, HeadFault, WavFault, read_frames, read_head};
-
-/// The most bytes of frames that a WAV file has: the size in its head counts 36 bytes and a pad byte beside them.
-const MOST_DATA: u128 = 4294967258;
+use wav_pcm::{Head, HeadFault, MOST_DATA, WavFault, read_frames, read_head};
 
 /// What is rendered: the samples of the input's frames and then of silence, interleaved and scaled to 32 bits, and the
 /// form of the output.
@@ -55,13 +53,13 @@ fn short_form(graph: &Checked, request: &RenderRequest, head: &Head) -> Result<F
     requires size { HasSize request.now.bits }
     ensures good { IfOk result IsForm }
     ensures ok { IfOk result (IsFormOf (request_in request.now) graph.now head.now) }
-    ensures short { IfOk result (λ f. written_frames f * (f.channels * (f.bits / 8)) ≤ 4294967258) }
+    ensures short { IfOk result (λ f. written_frames f * (f.channels * (f.bits / 8)) ≤ most_data) }
     ensures few { IfOk result (λ f. (f.frames ≤ 2 ^ 33) × (f.skipped ≤ f.frames)) }
     ensures long { IfErr result (IsTooLong (request_in request.now) graph.now head.now) }
 {
     let form = output_form(graph, request, head);
     let bytes = form.data_bytes();
-    if bytes > MOST_DATA {
+    if bytes > MOST_DATA as u128 {
         let bytes = bytes.min(u64::MAX as u128) as u64;
         return Err(End::Wav(WavFault::TooLong { bytes }));
     }
@@ -80,7 +78,7 @@ fn samples_under<F: Folder>(
     ensures held { F.held folder.new ≡ F.held folder.old }
     ensures samples { IfOk result (λ v. HeldBytes name.now (F.held folder.old) (λ file. v.items ≡ recorded head.now file)) }
     ensures whole { IfOk result (λ v. length v.items ≡ head.now.frames * head.now.channels) }
-    ensures small { IfOk result (λ v. All (λ x. unsigned_abs x ≤ 2 ^ 31) v.items) }
+    ensures small { IfOk result (λ v. AreUpTo (2 ^ 31) v.items) }
     ensures stops { IfErr result (Stops (λ end. ⊥) (Rose (F.read_faults folder.old) (F.read_faults folder.new))) }
     ensures reads { F.read_faults folder.old ≤ F.read_faults folder.new }
     ensures writes { F.write_faults folder.new ≡ F.write_faults folder.old }
@@ -115,10 +113,10 @@ pub(crate) fn recording_under<F: Folder>(
     ensures good { IfOk result (λ r. IsForm r.form) }
     ensures form { IfOk result (λ r. (h : HeadValue) × IsFormOf (request_in request.now) graph.now h r.form
         × IsInput request.now.input.now graph.now h r.form.silent r.samples.items (F.held folder.old)) }
-    ensures short { IfOk result (λ r. written_frames r.form * (r.form.channels * (r.form.bits / 8)) ≤ 4294967258) }
+    ensures short { IfOk result (λ r. written_frames r.form * (r.form.channels * (r.form.bits / 8)) ≤ most_data) }
     ensures few { IfOk result (λ r. (r.form.frames ≤ 2 ^ 33) × (r.form.skipped ≤ r.form.frames)) }
     ensures whole { IfOk result (λ r. length r.samples.items ≡ r.form.frames * in_channels graph.now) }
-    ensures small { IfOk result (λ r. All (λ x. unsigned_abs x ≤ 2 ^ 31) r.samples.items) }
+    ensures small { IfOk result (λ r. AreUpTo (2 ^ 31) r.samples.items) }
     ensures stops { IfErr result (Stops (IsInputEnd (request_in request.now) graph.now (F.held folder.old)) (Rose (F.read_faults folder.old) (F.read_faults folder.new))) }
     ensures reads { F.read_faults folder.old ≤ F.read_faults folder.new }
     ensures writes { F.write_faults folder.new ≡ F.write_faults folder.old }

@@ -6,6 +6,7 @@ ghost use Rattle.graph_host.specs.Forms.{HasSize};
 ghost use Rattle.graph_host.specs.Requests.{asked, bits_of, is_option, flagged, options_of, options_said, request_in, request_of, tail_of, taken};
 
 use crate::number::number;
+use wav_pcm::is_size;
 
 /// A request to render, by the words `render GRAPH IN OUT [--tail T] [--bits B] [--compensate]`.
 #[derive(Clone, Copy)]
@@ -81,7 +82,7 @@ fn bits(value: Option<&str>) -> Option<Option<u32>>
 {
     match value {
         Some(text) => number(text)
-            .filter(|bits| matches!(*bits, 8 | 16 | 24 | 32))
+            .filter(|bits| is_size(*bits))
             .map(|bits| Some(bits as u32)),
         None => Some(None),
     }

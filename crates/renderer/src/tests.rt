@@ -1,18 +1,20 @@
-ghost use Rattle.std.specs.Prelude.{◌≡◌, ◌∷◌, [], ◌++◌, ◌^◌, ◌<◌, ◌≤◌, IfOk, length, map};
+//! Worked examples, whose values come from outside.
+
+ghost use Rattle.std.specs.Prelude.{◌≡◌, ◌^◌, ◌≤◌, IfOk, length, map};
+ghost use Rattle.graph_model.specs.Bounds.{AreUpTo};
 ghost use Rattle.graph_model.specs.Graphs.{output_name};
 ghost use Rattle.graph_model.specs.Sound.{Fits};
-ghost use Rattle.graph_model.specs.declared.kind.Kind.TheVariants.{Gain};
 ghost use Rattle.plan_model.specs.Alignments.{IsAlignment, position_in};
 ghost use Rattle.plan_model.specs.Certified.{AreLiveNodes};
-ghost use Rattle.graph_model.specs.Bounds.{AreUpTo};
 
 use crate::{answer, answer_at};
 use connections::check;
-use graph_model::{Connection, Graph, Kind, List, Node, Uid};
+use graph_model::{Graph, Kind, List, Uid};
 use plan_model::At;
 use std::alloc::{AllocError, Global};
 use std::process::Abort;
 use std::test::Fail;
+use test_graphs::{graph_of, input, joined, joined_at, node, output};
 
 /// Samples of 16 bits times 65536.
 fn scaled_up(alloc: Global, samples: &[i16]) -> Result<List<i64>, AllocError>
@@ -42,60 +44,55 @@ fn rendered(
     Ok(answer(alloc, &checked, input.as_slice())?)
 }
 
-fn joined(src: u32, src_channel: u32, dst: u32, dst_channel: u32) -> Connection
-    ensures { result ≡ record { src = record { 0 = src }; src_channel = src_channel; dst = record { 0 = dst }; dst_channel = dst_channel } }
-{
-    Connection {
-        src: Uid(src),
-        src_channel,
-        dst: Uid(dst),
-        dst_channel,
-    }
-}
-
-/// A processor under 3 that stands first, an output under 2, and last an input under 1.
-fn graph_of(
-    alloc: Global,
-    inputs: u32,
-    outputs: u32,
-    kind: Kind,
-    connections: &[Connection],
-) -> Result<Graph, AllocError>
-    requires { length connections.now ≤ 8192 }
-    ensures { IfOk result Fits }
-{
-    let output = Kind::Output { channels: outputs };
-    let input = Kind::Input { channels: inputs };
-    let mut nodes = List::new(alloc);
-    nodes.push(Node { uid: Uid(3), kind })?;
-    nodes.push(Node {
-        uid: Uid(2),
-        kind: output,
-    })?;
-    nodes.push(Node {
-        uid: Uid(1),
-        kind: input,
-    })?;
-    let connections = List::from_slice(alloc, connections)?;
-    Ok(Graph { nodes, connections })
-}
-
 /// A gain of one channel, in units of 2^-16.
-fn gain(gain: i32) -> Kind
-    ensures { result ≡ Gain 1 gain }
-{
+fn gain(gain: i32) -> Kind {
     Kind::Gain { channels: 1, gain }
 }
 
-/// The nodes with one more.
-fn with(mut nodes: List<Node>, uid: u32, kind: Kind) -> Result<List<Node>, AllocError>
-    ensures { IfOk result (λ more. more ≡ nodes ++ record { uid = record { 0 = uid }; kind = kind } ∷ []) }
-{
-    nodes.push(Node {
-        uid: Uid(uid),
-        kind,
-    })?;
-    Ok(nodes)
+#[test]
+fn answers_of_small_graphs(rt: HostRuntime) -> Result<(), Fail> {
+    let alloc = rt.alloc();
+    let past = [joined(1, 2)];
+    let through = [joined(3, 2), joined(1, 3)];
+    let beside = [joined(1, 3), joined(3, 2), joined(1, 2)];
+    let nowhere = [joined(1, 3), joined(1, 2)];
+    let both = [joined(1, 2), joined_at(1, 1, 2, 0)];
+    let crossed = [joined_at(1, 0, 2, 1), joined_at(1, 1, 2, 0)];
+    let insert = Kind::Insert {
+        channels: 1,
+        samples: 5,
+    };
+    let fir = Kind::Fir {
+        channels: 1,
+        taps: List::from_slice(alloc, &[1, 2, 1])?,
+        shift: 0,
+        latency: 1,
+    };
+    let limiter = Kind::Limiter {
+        channels: 1,
+        threshold: 6553600,
+        lookahead: 1,
+    };
+    // input and output channels, the node between, the connections, the samples in and out
+    let cases: [(u32, u32, Kind, &[_], &[i16], &[i64]); 10] = [
+        (1, 1, gain(0), &past, &[-32768, 32767], &[-2147483648, 2147418112]),
+        (1, 1, gain(32768), &through, &[100, -3, 5], &[3276800, -98304, 163840]),
+        (2, 1, gain(0), &both, &[1, 2, -3, 4], &[196608, 65536]),
+        (1, 1, gain(131072), &through, &[32767, -32768], &[4294836224, -4294967296]),
+        (2, 3, gain(0), &crossed, &[1, 2, -3, 4], &[131072, 65536, 0, 262144, -196608, 0]),
+        (2, 3, gain(0), &crossed, &[], &[]),
+        (1, 1, insert, &beside, &[1000, 0, 0, 0, 0, 0], &[0, 0, 0, 0, 0, 131072000]),
+        (1, 1, fir, &through, &[4, 0], &[262144, 524288]),
+        (1, 1, limiter, &through, &[200, 50], &[0, 6553600]),
+        (1, 1, gain(131072), &nowhere, &[100, -3], &[6553600, -196608]),
+    ];
+    for (ins, outs, kind, ways, samples, wanted) in cases {
+        let nodes = vec![in alloc; node(3, kind), output(2, outs), input(1, ins)]?;
+        let graph = graph_of(alloc, nodes, ways)?;
+        let answer = rendered(&rt, alloc, graph, samples)?;
+        assert_eq!(rt; answer.as_slice(), wanted);
+    }
+    Ok(())
 }
 
 fn stands(uid: u32, at: u64) -> At
@@ -104,8 +101,7 @@ fn stands(uid: u32, at: u64) -> At
     At { uid: Uid(uid), at }
 }
 
-/// An insert of 5 into one channel of the output, beside a gain of one into three, with an alignment that has the
-/// output node at `late` and the others as early as they can be.
+/// The graph that fans out, with an alignment that has the output node at `late` and the others as early as they can be.
 fn fan_out(alloc: Global, late: u64) -> Result<(Graph, List<At>), AllocError>
     requires after { 5 ≤ late }
     requires near { late ≤ 2 ^ 26 }
@@ -114,26 +110,10 @@ fn fan_out(alloc: Global, late: u64) -> Result<(Graph, List<At>), AllocError>
     ensures alignment { IfOk result (λ r. IsAlignment r.0 (position_in r.1)) }
     ensures output { IfOk result (λ r. position_in r.1 (output_name r.0) ≤ 2 ^ 26) }
 {
-    let insert = Kind::Insert {
-        channels: 1,
-        samples: 5,
-    };
-    let one = with(List::new(alloc), 1, Kind::Input { channels: 1 })?;
-    let two = with(one, 2, Kind::Output { channels: 3 })?;
-    let three = with(two, 3, insert)?;
-    let nodes = with(three, 4, gain(65536))?;
-    let connections = [
-        joined(1, 0, 3, 0),
-        joined(3, 0, 2, 0),
-        joined(1, 0, 4, 0),
-        joined(4, 0, 2, 0),
-        joined(4, 0, 2, 1),
-        joined(4, 0, 2, 2),
-    ];
-    let connections = List::from_slice(alloc, &connections)?;
+    let graph = test_graphs::fan_out(alloc)?;
     let at = [stands(1, 0), stands(2, late), stands(3, 0), stands(4, 0)];
     let at = List::from_slice(alloc, &at)?;
-    Ok((Graph { nodes, connections }, at))
+    Ok((graph, at))
 }
 
 /// Its answer at that alignment.
@@ -155,127 +135,13 @@ fn rendered_at(
 }
 
 #[test]
-fn a_straight_connection_gives_the_input(rt: HostRuntime) -> Result<(), Fail> {
-    let graph = graph_of(rt.alloc(), 1, 1, gain(0), &[joined(1, 0, 2, 0)])?;
-    let output = rendered(&rt, rt.alloc(), graph, &[-32768, 32767])?;
-    assert_eq!(rt; output.as_slice(), [-2147483648, 2147418112].as_slice());
-    Ok(())
-}
-
-#[test]
-fn half_a_gain_stands_first_with_the_greatest_name(rt: HostRuntime) -> Result<(), Fail> {
-    let way = [joined(3, 0, 2, 0), joined(1, 0, 3, 0)];
-    let graph = graph_of(rt.alloc(), 1, 1, gain(32768), &way)?;
-    let output = rendered(&rt, rt.alloc(), graph, &[100, -3, 5])?;
-    assert_eq!(rt; output.as_slice(), [3276800, -98304, 163840].as_slice());
-    Ok(())
-}
-
-#[test]
-fn two_channels_into_one_are_summed(rt: HostRuntime) -> Result<(), Fail> {
-    let both = [joined(1, 0, 2, 0), joined(1, 1, 2, 0)];
-    let graph = graph_of(rt.alloc(), 2, 1, gain(0), &both)?;
-    let output = rendered(&rt, rt.alloc(), graph, &[1, 2, -3, 4])?;
-    assert_eq!(rt; output.as_slice(), [196608, 65536].as_slice());
-    Ok(())
-}
-
-#[test]
-fn a_gain_of_two_doubles(rt: HostRuntime) -> Result<(), Fail> {
-    let way = [joined(1, 0, 3, 0), joined(3, 0, 2, 0)];
-    let graph = graph_of(rt.alloc(), 1, 1, gain(131072), &way)?;
-    let output = rendered(&rt, rt.alloc(), graph, &[32767, -32768])?;
-    assert_eq!(rt; output.as_slice(), [4294836224, -4294967296].as_slice());
-    Ok(())
-}
-
-#[test]
-fn channels_are_crossed_and_one_is_silent(rt: HostRuntime) -> Result<(), Fail> {
-    let crossed = [joined(1, 0, 2, 1), joined(1, 1, 2, 0)];
-    let graph = graph_of(rt.alloc(), 2, 3, gain(0), &crossed)?;
-    let output = rendered(&rt, rt.alloc(), graph, &[1, 2, -3, 4])?;
-    assert_eq!(rt;
-        output.as_slice(),
-        [131072, 65536, 0, 262144, -196608, 0].as_slice()
-    );
-    Ok(())
-}
-
-#[test]
-fn no_frames_give_none(rt: HostRuntime) -> Result<(), Fail> {
-    let graph = graph_of(rt.alloc(), 2, 3, gain(0), &[joined(1, 0, 2, 1)])?;
-    let output = rendered(&rt, rt.alloc(), graph, &[])?;
-    assert_eq!(rt; output.len(), 0);
-    Ok(())
-}
-
-#[test]
-fn an_insert_and_the_way_beside_it_meet(rt: HostRuntime) -> Result<(), Fail> {
-    let insert = Kind::Insert {
-        channels: 1,
-        samples: 5,
-    };
-    let ways = [joined(1, 0, 3, 0), joined(3, 0, 2, 0), joined(1, 0, 2, 0)];
-    let graph = graph_of(rt.alloc(), 1, 1, insert, &ways)?;
-    let output = rendered(&rt, rt.alloc(), graph, &[1000, 0, 0, 0, 0, 0])?;
-    assert_eq!(rt; output.as_slice(), [0, 0, 0, 0, 0, 131072000].as_slice());
-    Ok(())
-}
-
-#[test]
-fn a_filter_has_its_latency_in_its_taps(rt: HostRuntime) -> Result<(), Fail> {
-    let fir = Kind::Fir {
-        channels: 1,
-        taps: List::from_slice(rt.alloc(), &[1, 2, 1])?,
-        shift: 0,
-        latency: 1,
-    };
-    let way = [joined(1, 0, 3, 0), joined(3, 0, 2, 0)];
-    let graph = graph_of(rt.alloc(), 1, 1, fir, &way)?;
-    let output = rendered(&rt, rt.alloc(), graph, &[4, 0])?;
-    assert_eq!(rt; output.as_slice(), [262144, 524288].as_slice());
-    Ok(())
-}
-
-#[test]
-fn a_limiter_holds_its_threshold(rt: HostRuntime) -> Result<(), Fail> {
-    let limiter = Kind::Limiter {
-        channels: 1,
-        threshold: 6553600,
-        lookahead: 1,
-    };
-    let way = [joined(1, 0, 3, 0), joined(3, 0, 2, 0)];
-    let graph = graph_of(rt.alloc(), 1, 1, limiter, &way)?;
-    let output = rendered(&rt, rt.alloc(), graph, &[200, 50])?;
-    assert_eq!(rt; output.as_slice(), [0, 6553600].as_slice());
-    Ok(())
-}
-
-#[test]
-fn the_gain_waits_for_the_insert_beside_it(rt: HostRuntime) -> Result<(), Fail> {
-    let output = rendered_at(&rt, rt.alloc(), 5, &[1000, 0, 0, 0, 0, 0])?;
-    let wanted = [
-        0, 0, 0, 0, 0, 0, 0, 0, 0, 0, 0, 0, 0, 0, 0, 131072000, 65536000, 65536000,
-    ];
-    assert_eq!(rt; output.as_slice(), wanted.as_slice());
-    Ok(())
-}
-
-#[test]
 fn a_later_output_gives_the_same_later(rt: HostRuntime) -> Result<(), Fail> {
-    let output = rendered_at(&rt, rt.alloc(), 6, &[1000, 0, 0, 0, 0, 0, 0])?;
     let wanted = [
         0, 0, 0, 0, 0, 0, 0, 0, 0, 0, 0, 0, 0, 0, 0, 0, 0, 0, 131072000, 65536000, 65536000,
     ];
-    assert_eq!(rt; output.as_slice(), wanted.as_slice());
-    Ok(())
-}
-
-#[test]
-fn a_gain_that_leads_nowhere_changes_nothing(rt: HostRuntime) -> Result<(), Fail> {
-    let ways = [joined(1, 0, 3, 0), joined(1, 0, 2, 0)];
-    let graph = graph_of(rt.alloc(), 1, 1, gain(131072), &ways)?;
-    let output = rendered(&rt, rt.alloc(), graph, &[100, -3])?;
-    assert_eq!(rt; output.as_slice(), [6553600, -196608].as_slice());
+    let best = rendered_at(&rt, rt.alloc(), 5, &[1000, 0, 0, 0, 0, 0])?;
+    assert_eq!(rt; best.as_slice(), &wanted[3..]);
+    let later = rendered_at(&rt, rt.alloc(), 6, &[1000, 0, 0, 0, 0, 0, 0])?;
+    assert_eq!(rt; later.as_slice(), wanted.as_slice());
     Ok(())
 }
