@@ -18,7 +18,6 @@ ghost use Rattle.plan_model.specs.Alignments.{IsAlignment, position_in};
 ghost use Rattle.plan_model.specs.Results.{IsAligned};
 
 mod carried;
-mod ends;
 mod links;
 mod needs;
 mod network;

@@ -2,11 +2,11 @@
 
 ghost use Rattle.std.specs.Prelude.{◌≡◌, ◌<◌, ◌≤◌, ◌-◌, ◌^◌, ◌++◌, length, map, IfOk, OnOk};
 ghost use Rattle.std.specs.List.{range_with_len};
+ghost use Rattle.graph_model.specs.Named.{uid_at};
 ghost use Rattle.graph_model.specs.Sound.{IsSound};
 ghost use Rattle.alignment.specs.Networks.{ArePoints, AreNetworkArcs, IsNetworkOf};
 ghost use Rattle.alignment.specs.Links.{links_of, arc_along, arc_from_root, arcs_to_root};
 
-use crate::ends::{input_name, latency, output_name};
 use crate::links::Link;
 use crate::needs::needs;
 use crate::points::point_of;
@@ -45,6 +45,14 @@ fn add_from_root(arcs: &mut Vec<Arc>, points: usize) -> Result<(), AllocError>
     Ok(())
 }
 
+/// The uid of a node, by its index.
+fn uid_of(graph: &Checked, node: u32) -> u32
+    requires { node < length graph.now.nodes }
+    ensures { result ≡ uid_at graph.now node }
+{
+    graph.graph().nodes.as_slice()[node as usize].uid.0
+}
+
 /// An arc to the root from a live input node, which keeps it at 0, and one from the output node, which keeps it at the
 /// graph's latency.
 fn add_to_root(arcs: &mut Vec<Arc>, graph: &Checked, points: &[u32]) -> Result<(), AllocError>
@@ -52,7 +60,7 @@ fn add_to_root(arcs: &mut Vec<Arc>, graph: &Checked, points: &[u32]) -> Result<(
     requires points { ArePoints graph.now points.now }
     ensures { OnOk result (arcs.new.items ≡ arcs.old.items ++ arcs_to_root graph.now points.now) }
 {
-    if let Some(tail) = point_of(points, input_name(graph)) {
+    if let Some(tail) = point_of(points, uid_of(graph, graph.input())) {
         arcs.push(Arc {
             tail,
             head: 0,
@@ -60,9 +68,9 @@ fn add_to_root(arcs: &mut Vec<Arc>, graph: &Checked, points: &[u32]) -> Result<(
         })?;
     }
     arcs.push(Arc {
-        tail: point_of(points, output_name(graph)).unwrap(),
+        tail: point_of(points, uid_of(graph, graph.output())).unwrap(),
         head: 0,
-        least: -(latency(graph) as i64),
+        least: -(graph.latency() as i64),
     })?;
     Ok(())
 }
