@@ -2,7 +2,6 @@
 
 ghost use Rattle.std.specs.Prelude.{◌≡◌, ◌<◌, ◌≤◌, ◌-◌, ◌^◌, ◌++◌, length, map, IfOk, OnOk};
 ghost use Rattle.std.specs.List.{range_with_len};
-ghost use Rattle.graph_model.specs.Graphs.{input_name as input_name_of, output_name as output_name_of};
 ghost use Rattle.graph_model.specs.Sound.{IsSound};
 ghost use Rattle.alignment.specs.Networks.{ArePoints, AreNetworkArcs, IsNetworkOf};
 ghost use Rattle.alignment.specs.Links.{links_of, arc_along, arc_from_root, arcs_to_root};
@@ -45,20 +44,6 @@ fn add_from_root(arcs: &mut Vec<Arc>, points: usize) -> Result<(), AllocError>
     Ok(())
 }
 
-/// The uid of the input node.
-fn input_name(graph: &Checked) -> u32
-    ensures { result ≡ input_name_of graph.now }
-{
-    graph.uid(graph.input()).0
-}
-
-/// The uid of the output node.
-fn output_name(graph: &Checked) -> u32
-    ensures { result ≡ output_name_of graph.now }
-{
-    graph.uid(graph.output()).0
-}
-
 /// An arc to the root from a live input node, which keeps it at 0, and one from the output node, which keeps it at the
 /// graph's latency.
 fn add_to_root(arcs: &mut Vec<Arc>, graph: &Checked, points: &[u32]) -> Result<(), AllocError>
@@ -66,7 +51,7 @@ fn add_to_root(arcs: &mut Vec<Arc>, graph: &Checked, points: &[u32]) -> Result<(
     requires points { ArePoints graph.now points.now }
     ensures { OnOk result (arcs.new.items ≡ arcs.old.items ++ arcs_to_root graph.now points.now) }
 {
-    if let Some(tail) = point_of(points, input_name(graph)) {
+    if let Some(tail) = point_of(points, graph.uid(graph.input()).0) {
         arcs.push(Arc {
             tail,
             head: 0,
@@ -74,7 +59,7 @@ fn add_to_root(arcs: &mut Vec<Arc>, graph: &Checked, points: &[u32]) -> Result<(
         })?;
     }
     arcs.push(Arc {
-        tail: point_of(points, output_name(graph)).unwrap(),
+        tail: point_of(points, graph.uid(graph.output()).0).unwrap(),
         head: 0,
         least: -(graph.latency() as i64),
     })?;

@@ -2,71 +2,15 @@
 
 use crate::{Aligned, align};
 use connections::check;
-use graph_model::{Connection, Graph, Kind, List, Node, Uid};
+use graph_model::{Connection, Node, Uid};
 use plan_model::{At, LineAt};
 use std::alloc::{AllocError, Global};
 use std::test::Fail;
-
-fn node(uid: u32, kind: Kind) -> Node {
-    Node {
-        uid: Uid(uid),
-        kind,
-    }
-}
-
-fn input(uid: u32, channels: u32) -> Node {
-    node(uid, Kind::Input { channels })
-}
-
-fn output(uid: u32, channels: u32) -> Node {
-    node(uid, Kind::Output { channels })
-}
-
-/// A hundredth, on one channel.
-fn gain(uid: u32) -> Node {
-    node(
-        uid,
-        Kind::Gain {
-            channels: 1,
-            gain: 655,
-        },
-    )
-}
-
-fn insert(uid: u32, samples: u32) -> Node {
-    node(
-        uid,
-        Kind::Insert {
-            channels: 1,
-            samples,
-        },
-    )
-}
-
-fn joined(src: u32, dst: u32) -> Connection {
-    joined_at(src, 0, dst, 0)
-}
-
-fn joined_at(src: u32, src_channel: u32, dst: u32, dst_channel: u32) -> Connection {
-    Connection {
-        src: Uid(src),
-        src_channel,
-        dst: Uid(dst),
-        dst_channel,
-    }
-}
+use test_graphs::{fan_out, gain, graph_of, input, insert, joined, joined_at, mixer, output};
 
 /// The alignment of a graph that has to be sound.
-fn aligned(alloc: Global, items: Vec<Node>, connections: &[Connection]) -> Result<Aligned, Fail> {
-    let mut nodes = List::new(alloc);
-    for node in items {
-        nodes.push(node)?;
-    }
-    let connections = List::from_slice(alloc, connections)?;
-    if nodes.len() > 512 || connections.len() > 8192 {
-        return Err("too large".into());
-    }
-    let checked = check(alloc, Graph { nodes, connections })?;
+fn aligned(alloc: Global, nodes: Vec<Node>, connections: &[Connection]) -> Result<Aligned, Fail> {
+    let checked = check(alloc, graph_of(alloc, nodes, connections)?)?;
     Ok(align(alloc, &checked)?)
 }
 
@@ -82,16 +26,8 @@ fn line(connection: u32, delay: u64) -> LineAt {
 #[test]
 fn a_gain_waits_before_it_fans_out(rt: HostRuntime) -> Result<(), Fail> {
     let alloc = rt.alloc();
-    let nodes = vec![in alloc; input(1, 1), output(2, 3), insert(3, 5), gain(4)]?;
-    let ways = [
-        joined(1, 3),
-        joined(3, 2),
-        joined(1, 4),
-        joined(4, 2),
-        joined_at(4, 0, 2, 1),
-        joined_at(4, 0, 2, 2),
-    ];
-    let aligned = aligned(alloc, nodes, &ways)?;
+    let checked = check(alloc, fan_out(alloc)?)?;
+    let aligned = align(alloc, &checked)?;
     let places = [at(1, 0), at(2, 5), at(3, 0), at(4, 5)];
     assert_eq!(rt; aligned.at.as_slice(), places.as_slice());
     let lines = [
@@ -111,16 +47,12 @@ fn a_gain_waits_before_it_fans_out(rt: HostRuntime) -> Result<(), Fail> {
 #[test]
 fn a_mixer_stays_and_the_gain_behind_it_waits(rt: HostRuntime) -> Result<(), Fail> {
     let alloc = rt.alloc();
-    let mixer = Kind::Mixer {
-        ins: 2,
-        outs: 1,
-        gains: List::from_slice(alloc, &[32768, 32768])?,
-    };
+    let mixer = mixer(alloc, 3, 2, 1, &[32768, 32768])?;
     let nodes = vec![in alloc;
         input(1, 2),
         output(2, 3),
-        node(3, mixer),
-        gain(4),
+        mixer,
+        gain(4, 655),
         insert(5, 5),
     ]?;
     let ways = [
@@ -144,7 +76,13 @@ fn a_mixer_stays_and_the_gain_behind_it_waits(rt: HostRuntime) -> Result<(), Fai
 #[test]
 fn of_equal_totals_the_earliest_is_taken(rt: HostRuntime) -> Result<(), Fail> {
     let alloc = rt.alloc();
-    let nodes = vec![in alloc; input(1, 1), output(2, 1), gain(3), gain(4), insert(5, 5)]?;
+    let nodes = vec![in alloc;
+        input(1, 1),
+        output(2, 1),
+        gain(3, 655),
+        gain(4, 655),
+        insert(5, 5),
+    ]?;
     let ways = [
         joined(1, 3),
         joined(3, 4),
@@ -162,11 +100,11 @@ fn of_equal_totals_the_earliest_is_taken(rt: HostRuntime) -> Result<(), Fail> {
 #[test]
 fn idle_nodes_have_no_position(rt: HostRuntime) -> Result<(), Fail> {
     let alloc = rt.alloc();
-    let nodes = vec![in alloc; input(1, 1), output(2, 1), gain(3)]?;
+    let nodes = vec![in alloc; input(1, 1), output(2, 1), gain(3, 655)]?;
     let beside = aligned(alloc, nodes, &[joined(3, 2)])?;
     assert_eq!(rt; beside.at.as_slice(), [at(2, 0), at(3, 0)].as_slice());
     assert_eq!(rt; beside.lines.as_slice(), [line(0, 0)].as_slice());
-    let nodes = vec![in alloc; input(1, 1), output(2, 1), gain(3)]?;
+    let nodes = vec![in alloc; input(1, 1), output(2, 1), gain(3, 655)]?;
     let alone = aligned(alloc, nodes, &[])?;
     assert_eq!(rt; alone.at.as_slice(), [at(2, 0)].as_slice());
     assert_eq!(rt; alone.lines.len(), 0);
@@ -204,7 +142,7 @@ fn many_nodes(alloc: Global) -> Result<Vec<Node>, AllocError> {
         if uid % 2 == 0 {
             nodes.push(insert(uid, 1 + uid % 13))?;
         } else {
-            nodes.push(gain(uid))?;
+            nodes.push(gain(uid, 655))?;
         }
     }
     Ok(nodes)

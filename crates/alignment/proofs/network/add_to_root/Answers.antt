@@ -7,7 +7,7 @@ use Rattle.alignment.proofs.network.add_to_root.Goals as goal
 use Rattle.alignment.proofs.network.add_to_root.Goals.{in-Some+in_ok-push, in_default}
 
 pub unwrap-requires : goal.unwrap-requires
-unwrap-requires c = found_there _ _ c.point_of-2.result c.point_of-2.ensures (subst (Contains c.args.points.now) (sym c.output_name.ensures) (output_point c.args.graph.now c.args.points.now c.requires.sound c.requires.points))
+unwrap-requires c = found_there _ _ c.point_of-2.result c.point_of-2.ensures (subst (Contains c.args.points.now) (sym (c.uid-2.ensures ∙ c.output.ensures.name)) (output_point c.args.graph.now c.args.points.now c.requires.sound c.requires.points))
 
 pub returns : goal.returns
 returns c =
@@ -20,9 +20,9 @@ returns c =
     = rw (to_z_pos w64 c.latency.result (omega (arith, c.latency.ensures.small)), to_z-of_z w64 _ below) (negated ∙ ap (λ n. neg_ℤ (pos n)) c.latency.ensures.latency) in
     elim c.match-point_of.branch [
       | in-Some+in_ok-push w ↦ to_root_made g points c.requires.sound c.requires.points c.args.arcs.now.items c.match-point_of.arcs.items c.push-2.new.self.items c.unwrap.result _
-          (ap (λ v. v.items) w.arcs-is ∙ w.in_ok-push.ensures.items ∙ input_made g points c.requires.sound c.requires.points c.args.arcs.now.items w.in-Some.tail w.in-Some.ensures.0 (w.in-Some.ensures.1 ∙ c.input_name.ensures))
-          found.0 (found.1 ∙ c.output_name.ensures) least c.in_ok-push-2.ensures.items
+          (ap (λ v. v.items) w.arcs-is ∙ w.in_ok-push.ensures.items ∙ input_made g points c.requires.sound c.requires.points c.args.arcs.now.items w.in-Some.tail w.in-Some.ensures.0 (w.in-Some.ensures.1 ∙ (c.uid.ensures ∙ c.input.ensures.name)))
+          found.0 (found.1 ∙ (c.uid-2.ensures ∙ c.output.ensures.name)) least c.in_ok-push-2.ensures.items
       | in_default w ↦ to_root_made g points c.requires.sound c.requires.points c.args.arcs.now.items c.match-point_of.arcs.items c.push-2.new.self.items c.unwrap.result _
-          (ap (λ v. v.items) w.arcs-is ∙ input_not_made g points c.requires.sound c.requires.points c.args.arcs.now.items (λ has. w.in_default.ensures (subst (Contains points) (sym c.input_name.ensures) has)))
-          found.0 (found.1 ∙ c.output_name.ensures) least c.in_ok-push-2.ensures.items
+          (ap (λ v. v.items) w.arcs-is ∙ input_not_made g points c.requires.sound c.requires.points c.args.arcs.now.items (λ has. w.in_default.ensures (subst (Contains points) (sym (c.uid.ensures ∙ c.input.ensures.name)) has)))
+          found.0 (found.1 ∙ (c.uid-2.ensures ∙ c.output.ensures.name)) least c.in_ok-push-2.ensures.items
     ]
