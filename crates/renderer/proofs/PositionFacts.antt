@@ -12,12 +12,10 @@ use Rattle.graph_model.proofs.ReachLaws.{filter_from, reach_after}
 use Rattle.graph_model.specs.declared.graph.Connection.{Connection}
 use Rattle.graph_model.specs.declared.graph.Graph.{Graph}
 use Rattle.plan_model.specs.Alignments.{IsAlignment}
-use Rattle.plan_model.proofs.DualityLaws.{output_is_node}
 use Rattle.graph_model.specs.Named.{uid_at}
-use Rattle.graph_model.proofs.NameFacts.{any_node, index_of}
 use Rattle.renderer.specs.Positions.{position_at, AreAligned}
-use Rattle.graph_model.proofs.NameFacts.{first_place}
-use Rattle.graph_model.proofs.NodeFacts.{named, at_input, input_reach}
+use Rattle.graph_model.proofs.NameFacts.{any_node, first_place, index_of}
+use Rattle.graph_model.proofs.NodeFacts.{named, at_input, input_reach, output_is_node}
 
 -- the first k nodes have the positions p
 pub record AreListed (g : Graph) (p : ℕ → ℕ) (k : ℕ) (ps : List ℕ) : Type 0 where

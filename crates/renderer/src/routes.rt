@@ -3,6 +3,7 @@
 ghost use Rattle.std.specs.Prelude.{◌≡◌, ◌*◌, ◌^◌, ◌<◌, IfOk, length};
 ghost use Rattle.std.specs.List.{Contains};
 ghost use Rattle.graph_model.specs.Paths.{is_live, live_connections};
+ghost use Rattle.graph_model.specs.Sound.{IsSound};
 ghost use Rattle.plan_model.specs.Alignments.{IsAlignment};
 ghost use Rattle.renderer.specs.Positions.{position_at};
 ghost use Rattle.renderer.specs.Routes.{IsRoute, AreRoutes, IsAdded};
@@ -98,7 +99,8 @@ pub(crate) fn routes(
 ) -> Result<Vec<Route>, AllocError>
     requires count { length positions.now ≡ length checked.now.nodes }
     requires alignment { IsAlignment checked.now (position_at checked.now positions.now) }
-    ensures { IfOk result (λ v. AreRoutes checked.now (position_at checked.now positions.now) v.items) }
+    ensures sound { IfOk result (λ _. IsSound checked.now) }
+    ensures routes { IfOk result (λ v. AreRoutes checked.now (position_at checked.now positions.now) v.items) }
 {
     let mut routes = Vec::new(alloc);
     for connection in checked.graph().connections.as_slice() {
