@@ -1,9 +1,9 @@
 -- A line with the oldest sample first, and the same with the newest first.
-use Rattle.std.proofs.Common.{◌≡◌, ℕ, ◌+◌, ◌-◌, ◌<◌, ◌≤◌, zero, suc, List, [], ◌∷◌, ◌++◌, length, take, drop, reverse, get_or, ℤ, pos, refl, sym, ap, ◌∙◌, subst, arith, append_assoc}
-use Rattle.std.proofs.lemmas.List.{take_at, take-append-drop, take-take, length-append, length-reverse, length-take, length-take-le, length-drop, take_all, reverse-append, get_or-take, get_or_append_left, get_or-reverse}
+use Rattle.std.proofs.Common.{◌≡◌, ℕ, ◌+◌, ◌<◌, ◌≤◌, zero, suc, List, [], ◌∷◌, ◌++◌, length, take, drop, reverse, get_or, ℤ, pos, refl, sym, ap, ◌∙◌, arith, append_assoc}
+use Rattle.std.proofs.lemmas.List.{take_at, take-append-drop, take-take, length-append, length-reverse, length-take-le, length-drop, take_all, reverse-append, get_or-take, get_or_append_left, get_or-reverse}
 use Rattle.std.proofs.Math.Seq.{take-suc}
 use Rattle.delay_lines.specs.Lines.{kept, passed}
-use Rattle.delay_lines.specs.NewestFirst.{come, hold, held}
+use Rattle.delay_lines.specs.NewestFirst.{come, held}
 use Rattle.delay_lines.specs.Laws.{ViewsAgree}
 
 -- the first n samples of a stream, the newest first
@@ -68,12 +68,12 @@ views_agree line samples stream same =
         = omega (arith, length-append line (take (suc k) samples), length-take-le (suc k) samples here, length-reverse line) in
         let out : get_or (passed line samples) k (pos 0) ≡ get_or first k (pos 0)
         = get_or-take (length samples) (line ++ samples) k (pos 0) here
-          ∙ ap (λ xs. get_or xs k (pos 0)) (ap (λ xs. line ++ xs) (sym (take-append-drop (suc k) samples)) ∙ sym (append_assoc line (take (suc k) samples) (drop (suc k) samples)))
-          ∙ get_or_append_left first (drop (suc k) samples) (pos 0) k (omega (arith, size)) in
+        ∙ ap (λ xs. get_or xs k (pos 0)) (ap (λ xs. line ++ xs) (sym (take-append-drop (suc k) samples)) ∙ sym (append_assoc line (take (suc k) samples) (drop (suc k) samples)))
+        ∙ get_or_append_left first (drop (suc k) samples) (pos 0) k (omega (arith, size)) in
         let back : get_or (reverse first) m (pos 0) ≡ get_or first k (pos 0)
         = get_or-reverse first m (pos 0) (omega (arith, size)) ∙ ap (λ n. get_or first n (pos 0)) (omega (arith, size)) in
         let long : m ≤ length (latest stream k ++ reverse line) = omega (arith, length-append (latest stream k) (reverse line)) in
         let come_is : come (held (reverse line) stream k) (stream k) ≡ get_or (stream k ∷ (latest stream k ++ reverse line)) m (pos 0)
         = (λ i. get_or (stream k ∷ held_is (reverse line) stream k i) (length-held (reverse line) stream k i) (pos 0))
-          ∙ get_or-take (suc m) (stream k ∷ (latest stream k ++ reverse line)) m (pos 0) (omega arith) in
+        ∙ get_or-take (suc m) (stream k ∷ (latest stream k ++ reverse line)) m (pos 0) (omega arith) in
         out ∙ sym (come_is ∙ ap (λ xs. get_or xs m (pos 0)) (whole samples stream same line (suc k) here) ∙ back)

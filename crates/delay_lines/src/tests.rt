@@ -1,5 +1,7 @@
 //! A line below, at and above its block, and one that holds nothing.
 
+ghost use Rattle.std.specs.Prelude.{◌≤◌, ◌^◌};
+
 use super::*;
 use std::alloc::{AllocError, Global};
 

@@ -1,5 +1,7 @@
 //! What no clause says: that two jobs run beside each other. And lists of more jobs than threads, and of none.
 
+ghost use Rattle.std.specs.Prelude.{◌≡◌};
+
 use super::*;
 use std::sync::atomic::{AtomicBool, Ordering};
 
@@ -20,7 +22,11 @@ fn is_raised(flag: &AtomicBool) -> bool {
 impl Gate for Meeting {
     fn pass(&self, node: u32) {
         let [first, second] = &self.here;
-        let (own, other) = if node == 0 { (first, second) } else { (second, first) };
+        let (own, other) = if node == 0 {
+            (first, second)
+        } else {
+            (second, first)
+        };
         own.store(true, Ordering::SeqCst);
         let [first, second] = &self.met;
         let met = if node == 0 { first } else { second };

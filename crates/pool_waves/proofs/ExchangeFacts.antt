@@ -2,11 +2,10 @@
 use Rattle.std.proofs.Common.{◌≡◌, ℕ, ◌+◌, ◌<◌, ◌≤◌, zero, suc, ℤ, List, [], ◌∷◌, length, map, get_or, set, refl, sym, ◌∙◌, ap, subst, arith, inl, inr}
 use Rattle.std.proofs.lemmas.List.{get_or-set_same, get_or-set_other, length-set, get_or_default, get_or-map, length-map}
 use Rattle.std.proofs.lemmas.Bool.{cases_eq}
-use Rattle.pool_waves.specs.Exchanges.{Swapped, IsDistinct, AreApart, Exchanged, SameHomes, SameBut, desks}
-use Rattle.pool_waves.specs.declared.job.Home.{Home}
+use Rattle.pool_waves.specs.Exchanges.{Swapped, AreApart, Exchanged, SameBut, desks}
 use Rattle.pool_waves.specs.declared.job.Desk.{Desk}
 use Rattle.pool_waves.specs.declared.job.Job.{Job}
-use Rattle.pool_waves.proofs.SwapFacts.{Exchanging, exchanging_none, exchanging_more, exchanged, distinct_at}
+use Rattle.pool_waves.proofs.SwapFacts.{Exchanging, exchanging_none, exchanging_more, exchanged}
 
 pub map_set : {X Y : Type 0} (f : X → Y) (xs : List X) (i : ℕ) (x : X) → map f (set xs i x) ≡ set (map f xs) i (f x)
 map_set f [] i x = refl
@@ -43,24 +42,24 @@ trading_more jobs pool i jobs' pool' b c pool'' apart lt bi node index part home
     record {
       exchanging = subst (λ ds. Exchanging (desks jobs) pool (i + 1) ds pool'') (sym (map_set (λ (j : Job _). j.desk) jobs' i c))
           (exchanging_more (desks jobs) pool i (desks jobs') pool' b.desk c.desk pool'' apart ltd
-            (ap (λ (j : Job _). j.desk) bi ∙ sym (desk_at jobs' i b b.desk lt')) homes s t.exchanging);
+          (ap (λ (j : Job _). j.desk) bi ∙ sym (desk_at jobs' i b b.desk lt')) homes s t.exchanging);
       same = record {
         len = length-set jobs' i c ∙ t.same.len;
         nodes = λ j d h. elim (cases_eq j i) [
-            | inl at ↦ ap (λ z. (get_or (set jobs' i c) z d).node) at ∙ ap (λ (v : Job _). v.node) (get_or-set_same jobs' i c d lt') ∙ node
-                ∙ ap (λ (v : Job _). v.node) (bi ∙ get_or_default jobs' i b d lt') ∙ t.same.nodes i d lt ∙ ap (λ z. (get_or jobs z d).node) (sym at)
-            | inr ne ↦ ap (λ (v : Job _). v.node) (get_or-set_other jobs' i j c d ne) ∙ t.same.nodes j d h
-          ];
+          | inl at ↦ ap (λ z. (get_or (set jobs' i c) z d).node) at ∙ ap (λ (v : Job _). v.node) (get_or-set_same jobs' i c d lt') ∙ node
+              ∙ ap (λ (v : Job _). v.node) (bi ∙ get_or_default jobs' i b d lt') ∙ t.same.nodes i d lt ∙ ap (λ z. (get_or jobs z d).node) (sym at)
+          | inr ne ↦ ap (λ (v : Job _). v.node) (get_or-set_other jobs' i j c d ne) ∙ t.same.nodes j d h
+        ];
         indices = λ j d h. elim (cases_eq j i) [
-            | inl at ↦ ap (λ z. (get_or (set jobs' i c) z d).index) at ∙ ap (λ (v : Job _). v.index) (get_or-set_same jobs' i c d lt') ∙ index
-                ∙ ap (λ (v : Job _). v.index) (bi ∙ get_or_default jobs' i b d lt') ∙ t.same.indices i d lt ∙ ap (λ z. (get_or jobs z d).index) (sym at)
-            | inr ne ↦ ap (λ (v : Job _). v.index) (get_or-set_other jobs' i j c d ne) ∙ t.same.indices j d h
-          ];
+          | inl at ↦ ap (λ z. (get_or (set jobs' i c) z d).index) at ∙ ap (λ (v : Job _). v.index) (get_or-set_same jobs' i c d lt') ∙ index
+              ∙ ap (λ (v : Job _). v.index) (bi ∙ get_or_default jobs' i b d lt') ∙ t.same.indices i d lt ∙ ap (λ z. (get_or jobs z d).index) (sym at)
+          | inr ne ↦ ap (λ (v : Job _). v.index) (get_or-set_other jobs' i j c d ne) ∙ t.same.indices j d h
+        ];
         parts = λ j d h. elim (cases_eq j i) [
-            | inl at ↦ ap (λ z. (get_or (set jobs' i c) z d).part) at ∙ ap (λ (v : Job _). v.part) (get_or-set_same jobs' i c d lt') ∙ part
-                ∙ ap (λ (v : Job _). v.part) (bi ∙ get_or_default jobs' i b d lt') ∙ t.same.parts i d lt ∙ ap (λ z. (get_or jobs z d).part) (sym at)
-            | inr ne ↦ ap (λ (v : Job _). v.part) (get_or-set_other jobs' i j c d ne) ∙ t.same.parts j d h
-          ];
+          | inl at ↦ ap (λ z. (get_or (set jobs' i c) z d).part) at ∙ ap (λ (v : Job _). v.part) (get_or-set_same jobs' i c d lt') ∙ part
+              ∙ ap (λ (v : Job _). v.part) (bi ∙ get_or_default jobs' i b d lt') ∙ t.same.parts i d lt ∙ ap (λ z. (get_or jobs z d).part) (sym at)
+          | inr ne ↦ ap (λ (v : Job _). v.part) (get_or-set_other jobs' i j c d ne) ∙ t.same.parts j d h
+        ];
       };
     }
 

@@ -56,5 +56,5 @@ pub record WaveRan {P : Type 0} (done : List (List ℤ) → List Home → List (
   pub outs : (i : ℕ) (d : Job P) → i < length jobs → outs_of jobs' i d ≡ outs_of jobs i d
   pub ran : (i : ℕ) (d : Job P) → i < length jobs
       → done left (homes_of jobs i d) (taken pool (homes_of jobs i d)) (slice_index_or jobs i d).part
-        (taken pool' (homes_of jobs i d)) (slice_index_or jobs' i d).part
+      (taken pool' (homes_of jobs i d)) (slice_index_or jobs' i d).part
   pub others : (b : ℕ) → IsFree (desks jobs) b → list_at pool' b ≡ list_at pool b

@@ -16,7 +16,14 @@ pub trait Part<S> {
     ghost done: { S → ℕ → List (List ℤ) → List Value → List (List ℤ) → Self → List (List ℤ) → Self → Type 0 };
 
     /// Takes the frames of a block. `outs` has the buffers of its values, in the order of their homes.
-    fn play(&mut self, shared: &S, pool: &[Buffer], homes: &[Home], outs: &mut [Buffer], frames: usize)
+    fn play(
+        &mut self,
+        shared: &S,
+        pool: &[Buffer],
+        homes: &[Home],
+        outs: &mut [Buffer],
+        frames: usize,
+    )
         requires { ready shared.now frames pool.now homes.now outs.old self.old }
         ensures len { length outs.new ≡ length outs.old }
         ensures done { done shared.now frames pool.now homes.now outs.old self.old outs.new self.new };

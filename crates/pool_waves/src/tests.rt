@@ -32,7 +32,14 @@ impl Part<i64> for Fill {
 
     ghost done = { λ _ _ _ _ _ _ _ _. Unit {0} };
 
-    fn play(&mut self, shared: &i64, _pool: &[Buffer], _homes: &[Home], outs: &mut [Buffer], _frames: usize) {
+    fn play(
+        &mut self,
+        shared: &i64,
+        _pool: &[Buffer],
+        _homes: &[Home],
+        outs: &mut [Buffer],
+        _frames: usize,
+    ) {
         for out in outs.iter_mut() {
             if !out.as_slice().is_empty() {
                 out.put(0, self.sample.wrapping_add(*shared));
@@ -51,22 +58,38 @@ fn job(alloc: Global, node: u32, index: u32, buffer: usize) -> Result<Job<Fill>,
     outs.push(Buffer::empty(alloc))?;
     let desk = Desk { homes, outs };
     let part = Fill { sample: 10 };
-    Ok(Job { node, index, desk, part })
+    Ok(Job {
+        node,
+        index,
+        desk,
+        part,
+    })
 }
 
 #[test]
 fn each_job_passes_with_its_index_and_fills_its_buffer(rt: HostRuntime) -> Result<(), AllocError> {
     let alloc = rt.alloc();
     let gate = Seen {
-        marks: [AtomicBool::new(false), AtomicBool::new(false), AtomicBool::new(false)],
+        marks: [
+            AtomicBool::new(false),
+            AtomicBool::new(false),
+            AtomicBool::new(false),
+        ],
     };
     let mut jobs = [job(alloc, 30, 0, 1)?, job(alloc, 40, 2, 0)?];
-    let mut pool = [Buffer::zeros(alloc, 2)?, Buffer::zeros(alloc, 2)?, Buffer::zeros(alloc, 2)?];
+    let mut pool = [
+        Buffer::zeros(alloc, 2)?,
+        Buffer::zeros(alloc, 2)?,
+        Buffer::zeros(alloc, 2)?,
+    ];
     run_wave(&rt, &gate, &5, &mut jobs, &mut pool, 2);
-    let seen = gate.marks.each_ref().map(|mark| mark.load(Ordering::SeqCst));
+    let seen = gate
+        .marks
+        .each_ref()
+        .map(|mark| mark.load(Ordering::SeqCst));
     assert_eq!(rt; seen, [true, false, true]);
-    assert_eq!(rt; pool[0].as_slice(), [15, 0]);
-    assert_eq!(rt; pool[1].as_slice(), [15, 0]);
-    assert_eq!(rt; pool[2].as_slice(), [0, 0]);
+    assert_eq!(rt; pool[0].as_slice(), [15, 0].as_slice());
+    assert_eq!(rt; pool[1].as_slice(), [15, 0].as_slice());
+    assert_eq!(rt; pool[2].as_slice(), [0, 0].as_slice());
     Ok(())
 }

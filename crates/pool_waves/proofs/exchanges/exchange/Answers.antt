@@ -1,10 +1,9 @@
-use Rattle.std.proofs.Common.{arith, sym, subst, ap, ◌∙◌, ◌≡◌, ◌<◌, ◌≤◌, ℕ, ℤ, List, length, get_or, refl}
+use Rattle.std.proofs.Common.{arith, sym, subst, ◌∙◌, ◌≡◌, ◌<◌, length, get_or, refl}
 use Rattle.std.proofs.lemmas.List.{get_or_default, length-map}
-use Rattle.pool_waves.specs.Exchanges.{IsDistinct, AreApart, desks}
-use Rattle.pool_waves.specs.declared.job.Home.{Home}
+use Rattle.pool_waves.specs.Exchanges.{IsDistinct, desks}
 use Rattle.pool_waves.specs.declared.job.Desk.{Desk}
 use Rattle.pool_waves.proofs.SwapFacts.{distinct_at}
-use Rattle.pool_waves.proofs.ExchangeFacts.{Trading, trading_none, trading_more, traded, waiting, desk_at}
+use Rattle.pool_waves.proofs.ExchangeFacts.{trading_none, trading_more, traded, waiting, desk_at}
 use Rattle.pool_waves.proofs.exchanges.exchange.Goals as goal
 
 pub loop-i-init : goal.loop-i-init
@@ -27,7 +26,7 @@ trade-requires-clause-distinct g c =
     let w = waiting c.args.jobs.now c.args.pool.now c.loop-i.i c.loop-i.jobs c.loop-i.pool c.index-jobs-i.result c.index-jobs-i.result c.loop-i-test.true c.loop-i.invariant in
     let lt : c.loop-i.i < length (desks c.args.jobs.now) = subst (λ z. c.loop-i.i < z) (sym (length-map c.args.jobs.now _)) c.loop-i-test.true in
     subst (λ (v : Desk). IsDistinct v.homes.items) (desk_at c.args.jobs.now c.loop-i.i c.index-jobs-i.result c.index-jobs-i.result.desk c.loop-i-test.true ∙ sym w)
-      (distinct_at (desks c.args.jobs.now) c.loop-i.i c.index-jobs-i.result.desk lt c.requires.apart)
+    (distinct_at (desks c.args.jobs.now) c.loop-i.i c.index-jobs-i.result.desk lt c.requires.apart)
 
 pub loop-i-preserved : goal.loop-i-preserved
 loop-i-preserved g c =

@@ -1,5 +1,5 @@
 use Rattle.std.proofs.Common.{arith}
-use Rattle.pool_waves.proofs.SwapFacts.{Swapping, swapping_none, swapping_next, swapped}
+use Rattle.pool_waves.proofs.SwapFacts.{swapping_none, swapping_next, swapped}
 use Rattle.pool_waves.proofs.exchanges.swap_values.Goals as goal
 
 pub loop-o-init : goal.loop-o-init
