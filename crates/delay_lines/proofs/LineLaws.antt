@@ -14,8 +14,10 @@ passes_on line samples out rest whole size = (
 pub delays_by_its_length : DelaysByItsLength
 delays_by_its_length delay samples k here =
     let zeros : List ℤ = replicate delay (pos 0) in
-    let at : get_or (passed zeros samples) k (pos 0) ≡ get_or (zeros ++ samples) k (pos 0) = get_or-take (length samples) (zeros ++ samples) k (pos 0) here in (
-      λ early. at ∙ get_or_append_left zeros samples (pos 0) k (omega (arith, early, length-replicate delay (pos 0))) ∙ get_or-replicate delay k (pos 0) (pos 0) early,
+    let at : get_or (passed zeros samples) k (pos 0) ≡ get_or (zeros ++ samples) k (pos 0)
+    = get_or-take (length samples) (zeros ++ samples) k (pos 0) here in (
+      λ early. at ∙ get_or_append_left zeros samples (pos 0) k (omega (arith, early, length-replicate delay (pos 0)))
+          ∙ get_or-replicate delay k (pos 0) (pos 0) early,
       λ j is.
           let place : k ≡ length zeros + j = omega (arith, is, length-replicate delay (pos 0)) in
           at ∙ ap (λ n. get_or (zeros ++ samples) n (pos 0)) place ∙ get_or-append-add zeros samples j (pos 0),
@@ -26,7 +28,8 @@ blocks_join line first second =
     let whole : line ++ (first ++ second) ≡ (line ++ first) ++ second = sym (append_assoc line first second) in
     let few : length first ≤ length (line ++ first) = omega (arith, length-append line first) in
     let n : length (first ++ second) ≡ length first + length second = length-append first second in
-    let early : take (length first) ((line ++ first) ++ second) ≡ passed line first = take-append-le (length first) (line ++ first) second few in
+    let early : take (length first) ((line ++ first) ++ second) ≡ passed line first
+    = take-append-le (length first) (line ++ first) second few in
     let late : drop (length first) ((line ++ first) ++ second) ≡ kept line first ++ second = drop-append-le (length first) (line ++ first) second few in (
       (λ i. take (n i) (whole i)) ∙ take-add (length first) (length second) ((line ++ first) ++ second)
           ∙ (λ i. early i ++ take (length second) (late i)),

@@ -26,7 +26,8 @@ held_is line stream (suc n) =
 
 pub length-held : (line : List ℤ) (stream : ℕ → ℤ) (n : ℕ) → length (held line stream n) ≡ length line
 length-held line stream n =
-    ap length (held_is line stream n) ∙ length-take-le (length line) (latest stream n ++ line) (omega (arith, length-append (latest stream n) line))
+    ap length (held_is line stream n)
+    ∙ length-take-le (length line) (latest stream n ++ line) (omega (arith, length-append (latest stream n) line))
 
 module _ (samples : List ℤ) (stream : ℕ → ℤ) (same : (k : ℕ) → k < length samples → get_or samples k (pos 0) ≡ stream k) where
   latest_is : (n : ℕ) → n ≤ length samples → latest stream n ≡ reverse (take n samples)
@@ -42,7 +43,8 @@ module _ (samples : List ℤ) (stream : ℕ → ℤ) (same : (k : ℕ) → k < l
 
 reverse-drop : (n : ℕ) (xs : List ℤ) → reverse (drop n xs) ≡ take (length (drop n xs)) (reverse xs)
 reverse-drop n xs =
-    let parts : reverse xs ≡ reverse (drop n xs) ++ reverse (take n xs) = ap reverse (sym (take-append-drop n xs)) ∙ reverse-append (take n xs) (drop n xs) in
+    let parts : reverse xs ≡ reverse (drop n xs) ++ reverse (take n xs)
+    = ap reverse (sym (take-append-drop n xs)) ∙ reverse-append (take n xs) (drop n xs) in
     sym (ap (take (length (drop n xs))) parts ∙ take_at (reverse (drop n xs)) (reverse (take n xs)) (length (drop n xs)) (length-reverse (drop n xs)))
 
 pub views_agree : ViewsAgree

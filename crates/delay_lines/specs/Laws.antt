@@ -20,7 +20,8 @@ BlocksJoin = (line first second : List ℤ)
     → (passed line (first ++ second) ≡ passed line first ++ passed (kept line first) second)
     × (kept line (first ++ second) ≡ kept (kept line first) second)
 
--- a line with the newest sample first holds the same, and gives the same sample by sample, of any stream that begins with the samples
+-- a line with the newest sample first holds the same, and gives the same sample by sample, of any stream that begins
+-- with the samples
 abbrev pub ViewsAgree : Type 0
 ViewsAgree = (line samples : List ℤ) (stream : ℕ → ℤ)
     → ((k : ℕ) → k < length samples → slice_index_or samples k (pos 0) ≡ stream k)

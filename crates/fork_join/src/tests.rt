@@ -8,11 +8,27 @@ use std::sync::atomic::{AtomicBool, Ordering};
 /// How often a job looks for the other one, at most.
 const LOADS: u32 = 1 << 30;
 
-/// A gate that holds two jobs until both are there, and notes for each whether the other came.
+/// What a gate notes of a job: that it is there, and that it saw the other one.
+#[derive(Drop)]
+struct Place {
+    here: AtomicBool,
+    met: AtomicBool,
+}
+
+impl Place {
+    fn new() -> Self {
+        Place {
+            here: AtomicBool::new(false),
+            met: AtomicBool::new(false),
+        }
+    }
+}
+
+/// A gate that holds two jobs until both are there.
 #[derive(Drop)]
 struct Meeting {
-    here: [AtomicBool; 2],
-    met: [AtomicBool; 2],
+    first: Place,
+    second: Place,
 }
 
 fn is_raised(flag: &AtomicBool) -> bool {
@@ -21,16 +37,13 @@ fn is_raised(flag: &AtomicBool) -> bool {
 
 impl Gate for Meeting {
     fn pass(&self, node: u32) {
-        let [first, second] = &self.here;
         let (own, other) = if node == 0 {
-            (first, second)
+            (&self.first, &self.second)
         } else {
-            (second, first)
+            (&self.second, &self.first)
         };
-        own.store(true, Ordering::SeqCst);
-        let [first, second] = &self.met;
-        let met = if node == 0 { first } else { second };
-        met.store(is_raised(other), Ordering::SeqCst);
+        own.here.store(true, Ordering::SeqCst);
+        own.met.store(is_raised(&other.here), Ordering::SeqCst);
     }
 }
 
@@ -54,13 +67,12 @@ impl<G: Gate> Work<G> for Guest {
 #[test]
 fn waves_in_a_plain_loop(rt: HostRuntime) {
     let meeting = Meeting {
-        here: [AtomicBool::new(false), AtomicBool::new(false)],
-        met: [AtomicBool::new(false), AtomicBool::new(false)],
+        first: Place::new(),
+        second: Place::new(),
     };
     run(&rt, &meeting, &mut [Guest { node: 0 }, Guest { node: 1 }]);
-    let [first, second] = &meeting.met;
-    assert!(rt; first.load(Ordering::SeqCst));
-    assert!(rt; second.load(Ordering::SeqCst));
+    assert!(rt; meeting.first.met.load(Ordering::SeqCst));
+    assert!(rt; meeting.second.met.load(Ordering::SeqCst));
 }
 
 /// A job that adds what all share.

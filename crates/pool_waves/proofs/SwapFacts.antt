@@ -58,7 +58,8 @@ swapping_more hs outs pool i outs' pool' d len within distinct lt s =
                 ap (λ z. get_or (set pool' b (get_or outs' i [])) z []) same
                 ∙ (get_or-set_same pool' b _ [] fits_pool ∙ (s.waits i (omega arith) ∙ ap (λ z. get_or outs z []) (sym at)))
             | inr ne ↦
-                let apart : home hs o e ≡ b → ⊥ = λ same. ne (distinct.apart o i d (omega arith) lt (ap (λ (z : Home). z.buffer) (get_or_default hs o d e (omega arith)) ∙ same)) in
+                let apart : home hs o e ≡ b → ⊥
+                = λ same. ne (distinct.apart o i d (omega arith) lt (ap (λ (z : Home). z.buffer) (get_or_default hs o d e (omega arith)) ∙ same)) in
                 get_or-set_other pool' b (home hs o e) _ [] apart ∙ s.lent o e (omega arith)
           ];
       waits = λ o le. get_or-set_other outs' i o _ [] (λ e. omega arith) ∙ s.waits o (omega arith);
@@ -81,7 +82,8 @@ pub swapping_next : (hs : List Home) (outs pool : List (List ℤ)) (i : ℕ) (ou
     → Swapping hs outs pool i outs' pool'
     → Swapping hs outs pool (i + 1) (set outs' i y) (set pool' (home hs i d) z)
 swapping_next hs outs pool i outs' pool' d y z e f len within distinct lt ye zf s =
-    let y' : y ≡ get_or pool' (home hs i d) [] = ye ∙ get_or_default pool' (home hs i d) e [] (subst (λ n. home hs i d < n) (sym s.pool_len) (within i d lt)) in
+    let y' : y ≡ get_or pool' (home hs i d) []
+    = ye ∙ get_or_default pool' (home hs i d) e [] (subst (λ n. home hs i d < n) (sym s.pool_len) (within i d lt)) in
     let z' : z ≡ get_or outs' i [] = zf ∙ get_or_default outs' i f [] (let l = s.outs_len in omega arith) in
     subst (λ w. Swapping hs outs pool (i + 1) (set outs' i w) (set pool' (home hs i d) z)) (sym y')
     (subst (λ w. Swapping hs outs pool (i + 1) (set outs' i (get_or pool' (home hs i d) [])) (set pool' (home hs i d) w)) (sym z')
@@ -151,25 +153,30 @@ exchanging_more jobs pool i jobs' pool' b c pool'' apart lt bi kept s x =
                 let clear : get_or pool' (home b.homes.items o e) [] ≡ get_or pool (home b.homes.items o e) [] =
                 x.others (home b.homes.items o e) (λ k q d' e' less inside same.
                 let one : job_home jobs k q d' e ≡ job_home jobs i o d' e =
-                ap (λ (z : Home). z.buffer) (get_or_default (get_or jobs k d').homes.items q e e' inside) ∙ (same ∙ ap (λ (v : Desk). home v.homes.items o e) (b_is d')) in
-                let p : k ≡ i = (apart.apart k i q o d' e (omega arith) lt inside (subst (λ (v : Desk). o < length v.homes.items) (b_is d') within') one).0 in
+                ap (λ (z : Home). z.buffer) (get_or_default (get_or jobs k d').homes.items q e e' inside)
+                ∙ (same ∙ ap (λ (v : Desk). home v.homes.items o e) (b_is d')) in
+                let p : k ≡ i
+                = (apart.apart k i q o d' e (omega arith) lt inside (subst (λ (v : Desk). o < length v.homes.items) (b_is d') within') one).0 in
                 omega arith) in
                 ap (λ (v : Desk). get_or v.outs.items o []) (ap (λ z. get_or (set jobs' i c) z d) at ∙ c_is d)
                 ∙ (s.given o e within' ∙ (clear ∙ ap (λ (v : Desk). get_or pool (home v.homes.items o e) []) bj))
-            | inr ne ↦ ap (λ (v : Desk). get_or v.outs.items o []) (get_or-set_other jobs' i j c d ne) ∙ x.given j o d e (omega arith) within
+            | inr ne ↦ ap (λ (v : Desk). get_or v.outs.items o []) (get_or-set_other jobs' i j c d ne)
+                ∙ x.given j o d e (omega arith) within
           ];
       lent = λ j o d e small within.
           elim (cases_eq j i) [
             | inl at ↦
                 let bj : b ≡ get_or jobs j d = b_is d ∙ ap (λ z. get_or jobs z d) (sym at) in
                 let within' : o < length b.homes.items = subst (λ (v : Desk). o < length v.homes.items) (sym bj) within in
-                ap (λ (v : Desk). get_or pool'' (home v.homes.items o e) []) (sym bj) ∙ (s.lent o e within' ∙ ap (λ (v : Desk). get_or v.outs.items o []) bj)
+                ap (λ (v : Desk). get_or pool'' (home v.homes.items o e) []) (sym bj)
+                ∙ (s.lent o e within' ∙ ap (λ (v : Desk). get_or v.outs.items o []) bj)
             | inr ne ↦
                 let clear : get_or pool'' (job_home jobs j o d e) [] ≡ get_or pool' (job_home jobs j o d e) [] =
                 s.others (job_home jobs j o d e) (λ q e' inside same.
                 let inside' : q < length (get_or jobs i d).homes.items = subst (λ (v : Desk). q < length v.homes.items) (b_is d) inside in
                 let one : job_home jobs i q d e ≡ job_home jobs j o d e =
-                ap (λ (v : Desk). home v.homes.items q e) (sym (b_is d)) ∙ (ap (λ (z : Home). z.buffer) (get_or_default b.homes.items q e e' inside) ∙ same) in
+                ap (λ (v : Desk). home v.homes.items q e) (sym (b_is d))
+                ∙ (ap (λ (z : Home). z.buffer) (get_or_default b.homes.items q e e' inside) ∙ same) in
                 ne (sym (apart.apart i j q o d e lt (omega arith) inside' within one).0)) in
                 clear ∙ x.lent j o d e (omega arith) within
           ];
@@ -179,7 +186,8 @@ exchanging_more jobs pool i jobs' pool' b c pool'' apart lt bi kept s x =
           ∙ x.others a (λ j o d e small inside. h j o d e (omega arith) inside);
     }
 
-pub exchanged : (jobs : List Desk) (pool : List (List ℤ)) (i : ℕ) (jobs' : List Desk) (pool' : List (List ℤ)) → length jobs ≤ i → i ≤ length jobs
+pub exchanged : (jobs : List Desk) (pool : List (List ℤ)) (i : ℕ) (jobs' : List Desk) (pool' : List (List ℤ)) → length jobs ≤ i
+    → i ≤ length jobs
     → Exchanging jobs pool i jobs' pool' → Exchanged jobs pool jobs' pool'
 exchanged jobs pool i jobs' pool' le ge x = record {
   jobs_len = x.jobs_len;

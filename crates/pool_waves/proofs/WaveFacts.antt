@@ -19,12 +19,14 @@ taken_is pool outs homes len each =
     ext_get_or [] outs (taken pool homes) (len ∙ sym lm)
     (λ k lt. each k no_home (omega arith) ∙ sym (get_or-map (λ (h : Home). get_or pool h.buffer []) homes k no_home [] (omega arith)))
 
-apart_same : (ds es : List Desk) → length es ≡ length ds → ((i : ℕ) (d : Desk) → i < length ds → (get_or es i d).homes.items ≡ (get_or ds i d).homes.items) → AreApart ds → AreApart es
+apart_same : (ds es : List Desk) → length es ≡ length ds
+    → ((i : ℕ) (d : Desk) → i < length ds → (get_or es i d).homes.items ≡ (get_or ds i d).homes.items) → AreApart ds → AreApart es
 apart_same ds es len same a = record {
   apart = λ i j o q d e hi hj.
       let hi' : i < length ds = subst (λ z. i < z) len hi in
       let hj' : j < length ds = subst (λ z. j < z) len hj in
-      let P : List Home → List Home → Type 0 = λ x y. o < length x → q < length y → (get_or x o e).buffer ≡ (get_or y q e).buffer → (i ≡ j) × (o ≡ q) in
+      let P : List Home → List Home → Type 0
+      = λ x y. o < length x → q < length y → (get_or x o e).buffer ≡ (get_or y q e).buffer → (i ≡ j) × (o ≡ q) in
       subst (λ x. P x (get_or es j d).homes.items) (sym (same i d hi'))
       (subst (λ y. P (get_or ds i d).homes.items y) (sym (same j d hj')) (a.apart i j o q d e hi' hj'));
 }
@@ -44,7 +46,8 @@ module _ {P : Type 0} (ready : List (List ℤ) → List Home → List (List ℤ)
   homes1 : (i : ℕ) (d : Job P) → i < length jobs → (get_or jobs1 i d).desk.homes.items ≡ (get_or jobs i d).desk.homes.items
   homes1 i d lt =
       let l1 : i < length jobs1 = subst (λ z. i < z) (sym s.len) lt in
-      sym (ap (λ (v : Desk). v.homes.items) (desk_at jobs1 i d d.desk l1)) ∙ x.kept i d.desk (omega (arith, dl)) ∙ ap (λ (v : Desk). v.homes.items) (desk_at jobs i d d.desk lt)
+      sym (ap (λ (v : Desk). v.homes.items) (desk_at jobs1 i d d.desk l1)) ∙ x.kept i d.desk (omega (arith, dl))
+      ∙ ap (λ (v : Desk). v.homes.items) (desk_at jobs i d d.desk lt)
 
   outs1 : (i : ℕ) (d : Job P) → i < length jobs → (get_or jobs1 i d).desk.outs.items ≡ taken pool (get_or jobs i d).desk.homes.items
   outs1 i d lt =
@@ -60,7 +63,8 @@ module _ {P : Type 0} (ready : List (List ℤ) → List Home → List (List ℤ)
       ∙ ap (λ (v : Desk). get_or pool (get_or v.homes.items o e).buffer []) at)
 
   -- each part is ready over what is left
-  pub ready1 : (i : ℕ) (d : Job P) → i < length jobs1 → ready pool1 (get_or jobs1 i d).desk.homes.items (get_or jobs1 i d).desk.outs.items (get_or jobs1 i d).part
+  pub ready1 : (i : ℕ) (d : Job P) → i < length jobs1
+      → ready pool1 (get_or jobs1 i d).desk.homes.items (get_or jobs1 i d).desk.outs.items (get_or jobs1 i d).part
   ready1 i d l1 =
       let lt : i < length jobs = subst (λ z. i < z) s.len l1 in
       subst (λ hs. ready pool1 hs (get_or jobs1 i d).desk.outs.items (get_or jobs1 i d).part) (sym (homes1 i d lt))
@@ -73,14 +77,19 @@ module _ {P : Type 0} (ready : List (List ℤ) → List Home → List (List ℤ)
     homes2 : (i : ℕ) (d : Job P) → i < length jobs → (get_or jobs2 i d).desk.homes.items ≡ (get_or jobs i d).desk.homes.items
     homes2 i d lt = (did i d (subst (λ z. i < z) (sym s.len) lt)).homes ∙ homes1 i d lt
 
-    outs2_len : (i : ℕ) (d : Job P) → i < length jobs → length (get_or jobs2 i d).desk.outs.items ≡ length (get_or jobs i d).desk.homes.items
+    outs2_len : (i : ℕ) (d : Job P) → i < length jobs
+        → length (get_or jobs2 i d).desk.outs.items ≡ length (get_or jobs i d).desk.homes.items
     outs2_len i d lt =
-        (did i d (subst (λ z. i < z) (sym s.len) lt)).len ∙ ap length (outs1 i d lt) ∙ length-map (get_or jobs i d).desk.homes.items (λ (h : Home). get_or pool h.buffer [])
+        (did i d (subst (λ z. i < z) (sym s.len) lt)).len ∙ ap length (outs1 i d lt)
+        ∙ length-map (get_or jobs i d).desk.homes.items (λ (h : Home). get_or pool h.buffer [])
 
-    pub outs_again : (i : ℕ) (d : Job P) → i < length jobs2 → length (get_or jobs2 i d).desk.outs.items ≡ length (get_or jobs2 i d).desk.homes.items
-    outs_again i d l2 = let lt : i < length jobs = subst (λ z. i < z) (len2 ∙ s.len) l2 in outs2_len i d lt ∙ sym (ap length (homes2 i d lt))
+    pub outs_again : (i : ℕ) (d : Job P) → i < length jobs2
+        → length (get_or jobs2 i d).desk.outs.items ≡ length (get_or jobs2 i d).desk.homes.items
+    outs_again i d l2 = let lt : i < length jobs = subst (λ z. i < z) (len2 ∙ s.len) l2 in outs2_len i d lt
+        ∙ sym (ap length (homes2 i d lt))
 
-    pub within_again : (i o : ℕ) (d : Job P) (e : Home) → i < length jobs2 → o < length (get_or jobs2 i d).desk.homes.items → (get_or (get_or jobs2 i d).desk.homes.items o e).buffer < length pool1
+    pub within_again : (i o : ℕ) (d : Job P) (e : Home) → i < length jobs2 → o < length (get_or jobs2 i d).desk.homes.items
+        → (get_or (get_or jobs2 i d).desk.homes.items o e).buffer < length pool1
     within_again i o d e l2 lo =
         let lt : i < length jobs = subst (λ z. i < z) (len2 ∙ s.len) l2 in
         subst (λ z. (get_or (get_or jobs2 i d).desk.homes.items o e).buffer < z) (sym x.pool_len)
@@ -93,12 +102,14 @@ module _ {P : Type 0} (ready : List (List ℤ) → List Home → List (List ℤ)
     pick [] i lt = absurd (omega arith)
     pick (j ∷ js) i lt = j
 
-    desk_homes2 : (i : ℕ) (d : Desk) → i < length (desks jobs) → (get_or (desks jobs2) i d).homes.items ≡ (get_or (desks jobs) i d).homes.items
+    desk_homes2 : (i : ℕ) (d : Desk) → i < length (desks jobs)
+        → (get_or (desks jobs2) i d).homes.items ≡ (get_or (desks jobs) i d).homes.items
     desk_homes2 i d ld =
         let lt : i < length jobs = omega (arith, dl) in
         let l2 : i < length jobs2 = subst (λ z. i < z) (sym (len2 ∙ s.len)) lt in
         let j = pick jobs i lt in
-        ap (λ (v : Desk). v.homes.items) (desk_at jobs2 i j d l2) ∙ homes2 i j lt ∙ ap (λ (v : Desk). v.homes.items) (sym (desk_at jobs i j d lt))
+        ap (λ (v : Desk). v.homes.items) (desk_at jobs2 i j d l2) ∙ homes2 i j lt
+        ∙ ap (λ (v : Desk). v.homes.items) (sym (desk_at jobs i j d lt))
 
     pub apart_again : AreApart (desks jobs2)
     apart_again = apart_same (desks jobs) (desks jobs2) (dl2 ∙ len2 ∙ s.len ∙ sym dl) desk_homes2 wave.apart
@@ -124,7 +135,8 @@ module _ {P : Type 0} (ready : List (List ℤ) → List Home → List (List ℤ)
           let at2 = desk_at jobs2 i d d.desk l2 in
           let at = desk_at jobs i d d.desk lt in
           let size : length (get_or jobs3 i d).desk.outs.items ≡ length (get_or jobs i d).desk.homes.items
-          = sym (ap (λ (v : Desk). length v.outs.items) at3) ∙ y.outs_len i d.desk (omega (arith, dl2)) ∙ ap (λ (v : Desk). length v.outs.items) at2 ∙ outs2_len i d lt in
+          = sym (ap (λ (v : Desk). length v.outs.items) at3) ∙ y.outs_len i d.desk (omega (arith, dl2))
+          ∙ ap (λ (v : Desk). length v.outs.items) at2 ∙ outs2_len i d lt in
           ext_get_or [] (get_or jobs3 i d).desk.outs.items (get_or jobs i d).desk.outs.items (size ∙ sym (wave.outs i d lt))
           (λ o lo3.
           let lo : o < length (get_or jobs i d).desk.homes.items = subst (λ n. o < n) size lo3 in
@@ -154,7 +166,8 @@ module _ {P : Type 0} (ready : List (List ℤ) → List Home → List (List ℤ)
             let l1 : i < length jobs1 = subst (λ z. i < z) (sym s.len) lt in
             let l2 : i < length jobs2 = subst (λ z. i < z) (sym len2) l1 in
             let l3 : i < length jobs3 = subst (λ z. i < z) (sym t.len) l2 in
-            sym (ap (λ (v : Desk). v.homes.items) (desk_at jobs3 i d d.desk l3)) ∙ y.kept i d.desk (omega (arith, dl2)) ∙ ap (λ (v : Desk). v.homes.items) (desk_at jobs2 i d d.desk l2) ∙ homes2 i d lt;
+            sym (ap (λ (v : Desk). v.homes.items) (desk_at jobs3 i d d.desk l3)) ∙ y.kept i d.desk (omega (arith, dl2))
+            ∙ ap (λ (v : Desk). v.homes.items) (desk_at jobs2 i d d.desk l2) ∙ homes2 i d lt;
         outs = returned;
         ran = λ i d lt.
             let l1 : i < length jobs1 = subst (λ z. i < z) (sym s.len) lt in

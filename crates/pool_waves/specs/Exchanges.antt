@@ -1,5 +1,5 @@
--- The lists on the desks of a wave's jobs and those of the buffers of their values change places. A look-up by place names what it
--- gives past the end, and says nothing of it: d of desks and jobs, e of homes.
+-- The lists on the desks of a wave's jobs and those of the buffers of their values change places. A look-up by place names
+-- what it gives past the end, and says nothing of it: d of desks and jobs, e of homes.
 use Rattle.std.specs.Prelude.{◌≡◌, ◌≢◌, ℕ, ◌<◌, ℤ, List, [], length, map, slice_index_or}
 use Rattle.pool_waves.specs.declared.job.Home.{Home}
 use Rattle.pool_waves.specs.declared.job.Desk.{Desk}
@@ -22,8 +22,23 @@ list_at lists o = slice_index_or lists o []
 abbrev pub outs_at : List Desk → ℕ → Desk → List (List ℤ)
 outs_at ds i d = (slice_index_or ds i d).outs.items
 
+-- the homes of job i, and the lists on its desk
+abbrev pub homes_of : {P : Type 0} → List (Job P) → ℕ → Job P → List Home
+homes_of jobs i d = (slice_index_or jobs i d).desk.homes.items
+
+abbrev pub outs_of : {P : Type 0} → List (Job P) → ℕ → Job P → List (List ℤ)
+outs_of jobs i d = (slice_index_or jobs i d).desk.outs.items
+
+-- the desk of each job has a list for each value
+abbrev pub HaveLists : {P : Type 0} → List (Job P) → Type 0
+HaveLists jobs = (i : ℕ) (d : Job _) → i < length jobs → length (outs_of jobs i d) ≡ length (homes_of jobs i d)
+
+-- all their buffers are below n
+abbrev pub AreWithin : {P : Type 0} → ℕ → List (Job P) → Type 0
+AreWithin n jobs = (i o : ℕ) (d : Job _) (e : Home) → i < length jobs → o < length (homes_of jobs i d) → buffer_at (homes_of jobs i d) o e < n
+
 -- the lists of one job's values and those of their buffers have changed places
-pub record Swapped (homes : List Home) (outs : List (List ℤ)) (pool : List (List ℤ)) (outs' : List (List ℤ)) (pool' : List (List ℤ)) : Type 0 where
+pub record Swapped (homes : List Home) (outs pool outs' pool' : List (List ℤ)) : Type 0 where
   pub outs_len : length outs' ≡ length outs
   pub pool_len : length pool' ≡ length pool
   pub given : (o : ℕ) (e : Home) → o < length homes → list_at outs' o ≡ list_at pool (buffer_at homes o e)
@@ -54,7 +69,8 @@ pub record Exchanged (ds : List Desk) (pool : List (List ℤ)) (ds' : List Desk)
       → list_at (outs_at ds' i d) o ≡ list_at pool (buffer_at (homes_at ds i d) o e)
   pub lent : (i o : ℕ) (d : Desk) (e : Home) → i < length ds → o < length (homes_at ds i d)
       → list_at pool' (buffer_at (homes_at ds i d) o e) ≡ list_at (outs_at ds i d) o
-  pub others : (b : ℕ) → ((i o : ℕ) (d : Desk) (e : Home) → i < length ds → o < length (homes_at ds i d) → buffer_at (homes_at ds i d) o e ≢ b)
+  pub others : (b : ℕ)
+      → ((i o : ℕ) (d : Desk) (e : Home) → i < length ds → o < length (homes_at ds i d) → buffer_at (homes_at ds i d) o e ≢ b)
       → list_at pool' b ≡ list_at pool b
 
 -- all of each job is as it was, but for its desk

@@ -3,14 +3,7 @@ use Rattle.std.specs.Prelude.{◌≡◌, ◌≢◌, ℕ, ◌<◌, ℤ, List, len
 use Rattle.pool_waves.specs.declared.job.Home.{Home}
 use Rattle.pool_waves.specs.declared.job.Desk.{Desk}
 use Rattle.pool_waves.specs.declared.job.Job.{Job}
-use Rattle.pool_waves.specs.Exchanges.{AreApart, buffer_at, desks, homes_at, list_at}
-
--- the homes of job i, and the lists on its desk
-abbrev pub homes_of : {P : Type 0} → List (Job P) → ℕ → Job P → List Home
-homes_of jobs i d = (slice_index_or jobs i d).desk.homes.items
-
-abbrev pub outs_of : {P : Type 0} → List (Job P) → ℕ → Job P → List (List ℤ)
-outs_of jobs i d = (slice_index_or jobs i d).desk.outs.items
+use Rattle.pool_waves.specs.Exchanges.{AreApart, AreWithin, HaveLists, buffer_at, desks, homes_at, homes_of, list_at, outs_of}
 
 -- no value of these has the buffer
 abbrev pub IsFree : List Desk → ℕ → Type 0
@@ -33,17 +26,18 @@ pub record PartDone {P : Type 0} (done : List (List ℤ) → P → List (List �
   pub len : length b.desk.outs.items ≡ length a.desk.outs.items
   pub part : done a.desk.outs.items a.part b.desk.outs.items b.part
 
--- A wave may run: a desk has a list for each value, the buffers are there, no two values have one, and each part is ready, over whatever
--- is left of the pool, for the buffers of its values.
-pub record IsWave {P : Type 0} (ready : List (List ℤ) → List Home → List (List ℤ) → P → Type 0) (pool : List (List ℤ)) (jobs : List (Job P)) : Type 0 where
-  pub outs : (i : ℕ) (d : Job P) → i < length jobs → length (outs_of jobs i d) ≡ length (homes_of jobs i d)
-  pub within : (i o : ℕ) (d : Job P) (e : Home) → i < length jobs → o < length (homes_of jobs i d) → buffer_at (homes_of jobs i d) o e < length pool
+-- A wave may run: a desk has a list for each value, the buffers are there, no two values have one, and each part is
+-- ready, over whatever is left of the pool, for the buffers of its values.
+pub record IsWave {P : Type 0} (ready : List (List ℤ) → List Home → List (List ℤ) → P → Type 0)
+    (pool : List (List ℤ)) (jobs : List (Job P)) : Type 0 where
+  pub outs : HaveLists jobs
+  pub within : AreWithin (length pool) jobs
   pub apart : AreApart (desks jobs)
   pub each : (left : List (List ℤ)) → IsLent (desks jobs) pool left → (i : ℕ) (d : Job P) → i < length jobs
       → ready left (homes_of jobs i d) (taken pool (homes_of jobs i d)) (slice_index_or jobs i d).part
 
--- A wave has run: each part has done its work on the buffers of its values, over what was left of the pool; all else is as it was, and
--- on each desk lie the lists that lay there.
+-- A wave has run: each part has done its work on the buffers of its values, over what was left of the pool; all else is
+-- as it was, and on each desk lie the lists that lay there.
 pub record WaveRan {P : Type 0} (done : List (List ℤ) → List Home → List (List ℤ) → P → List (List ℤ) → P → Type 0)
     (pool : List (List ℤ)) (jobs : List (Job P)) (pool' : List (List ℤ)) (jobs' : List (Job P)) : Type 0 where
   pub left : List (List ℤ)

@@ -1,6 +1,5 @@
-ghost use Rattle.std.specs.Prelude.{◌≡◌, ℕ, ◌<◌, length, slice_index_or};
-ghost use Rattle.pool_waves.specs.Exchanges.{AreApart, Exchanged, IsDistinct, SameBut, Swapped, buffer_at, desks};
-ghost use Rattle.pool_waves.specs.Waves.{homes_of, outs_of};
+ghost use Rattle.std.specs.Prelude.{◌≡◌, ℕ, ◌<◌, length};
+ghost use Rattle.pool_waves.specs.Exchanges.{AreApart, AreWithin, Exchanged, HaveLists, IsDistinct, SameBut, Swapped, buffer_at, desks};
 
 use crate::buffer::Buffer;
 use crate::job::{Desk, Home, Job};
@@ -34,8 +33,8 @@ impl Desk {
 
 /// The lists of a wave's values change places with those of their buffers.
 pub fn exchange<P>(jobs: &mut [Job<P>], pool: &mut [Buffer])
-    requires outs { (i : ℕ) (d : _) → i < length jobs.old → length (outs_of jobs.old i d) ≡ length (homes_of jobs.old i d) }
-    requires within { (i o : ℕ) (d : _) (e : _) → i < length jobs.old → o < length (homes_of jobs.old i d) → buffer_at (homes_of jobs.old i d) o e < length pool.old }
+    requires outs { HaveLists jobs.old }
+    requires within { AreWithin (length pool.old) jobs.old }
     requires apart { AreApart (desks jobs.old) }
     ensures exchanged { Exchanged (desks jobs.old) pool.old (desks jobs.new) pool.new }
     ensures parts { SameBut jobs.old jobs.new }

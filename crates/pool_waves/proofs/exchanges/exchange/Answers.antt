@@ -24,7 +24,8 @@ pub trade-requires-clause-distinct : goal.trade-requires-clause-distinct
 trade-requires-clause-distinct g c =
     let d = c.index-jobs-i.result in
     let w = waiting c.args.jobs.now c.args.pool.now c.loop-i.i c.loop-i.jobs c.loop-i.pool c.index-jobs-i.result c.index-jobs-i.result c.loop-i-test.true c.loop-i.invariant in
-    let lt : c.loop-i.i < length (desks c.args.jobs.now) = subst (λ z. c.loop-i.i < z) (sym (length-map c.args.jobs.now _)) c.loop-i-test.true in
+    let lt : c.loop-i.i < length (desks c.args.jobs.now)
+    = subst (λ z. c.loop-i.i < z) (sym (length-map c.args.jobs.now _)) c.loop-i-test.true in
     subst (λ (v : Desk). IsDistinct v.homes.items) (desk_at c.args.jobs.now c.loop-i.i c.index-jobs-i.result c.index-jobs-i.result.desk c.loop-i-test.true ∙ sym w)
     (distinct_at (desks c.args.jobs.now) c.loop-i.i c.index-jobs-i.result.desk lt c.requires.apart)
 
