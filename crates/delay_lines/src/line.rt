@@ -1,4 +1,4 @@
-ghost use Rattle.std.specs.Prelude.{◌≡◌, ◌^◌, ◌<◌, ◌≤◌, ◌-◌, ℤ, pos, List, [], ◌∷◌, ◌++◌, length, replicate, slice_index_or, IfOk, IsTrue, ◌↔◌};
+ghost use Rattle.std.specs.Prelude.{◌≡◌, ◌^◌, ◌≤◌, ◌-◌, ◌↔◌, ℤ, pos, List, [], ◌∷◌, ◌++◌, length, replicate, slice_index_or, IfOk, IsTrue};
 
 use circular_buffer::HeapCircularBuffer;
 use std::alloc::{AllocError, Global};
