@@ -1,0 +1,5 @@
+use Rattle.orders.proofs.Counts.{run_is_one}
+use Rattle.orders.proofs.laws.run_is_one.Goals as goal
+
+pub returns : goal.returns
+returns g c = run_is_one

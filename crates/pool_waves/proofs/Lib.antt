@@ -1,0 +1,3 @@
+pub mod SwapFacts
+pub mod ExchangeFacts
+pub mod WaveFacts
