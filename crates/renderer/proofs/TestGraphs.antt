@@ -2,9 +2,10 @@
 use Rattle.std.proofs.Common.{◌≡◌, ℕ, ◌≤◌, List, [], ◌∷◌, map, refl, arith}
 use Rattle.std.proofs.lemmas.List.Elements.{All-from_recursion}
 use Rattle.graph_model.specs.Paths.{leads, live_connections, IsLive}
+use Rattle.graph_model.proofs.Examples.{fan_out as example}
 use Rattle.test_graphs.specs.Graphs.{joined, fan_out}
 use Rattle.plan_model.specs.Alignments.{IsAfter, IsAlignment, position_in}
-use Rattle.plan_model.specs.Certified.{AreLiveNodes}
+use Rattle.plan_model.specs.Rules.{AreLiveNodes}
 use Rattle.plan_model.specs.declared.alignment.At.{At}
 use Rattle.plan_model.proofs.Examples.{stands}
 use Rattle.plan_model.proofs.ExampleAlignments.{live_input}
@@ -21,6 +22,7 @@ live_4 : IsLive fan_out 4
 live_4 = (4 ∷ [], (refl, (joined 4 0 2 0, (3, omega arith, refl), refl, refl), refl), (1, omega arith, refl))
 
 pub all_named : (n : ℕ) → AreLiveNodes fan_out (map (λ a. a.uid.0) (ending_at n))
+unfolding example
 all_named n = all_nodes fan_out (omega arith, (omega arith, (omega arith, tt))) (live_input, (([], refl, (0, omega arith, refl)), (live_3, (live_4, tt))))
 
 pub all_after : (n : ℕ) → 5 ≤ n → IsAlignment fan_out (position_in (ending_at n))

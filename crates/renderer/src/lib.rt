@@ -22,7 +22,7 @@ ghost use Rattle.graph_model.specs.Graphs.{in_channels, out_channels, output_nam
 ghost use Rattle.graph_model.specs.Histories.{frames_of, interleaved, shifted};
 ghost use Rattle.graph_model.specs.Paths.{latency_of_graph};
 ghost use Rattle.plan_model.specs.Alignments.{IsAlignment, position_in};
-ghost use Rattle.plan_model.specs.Certified.{AreLiveNodes};
+ghost use Rattle.plan_model.specs.Rules.{AreLiveNodes};
 ghost use Rattle.renderer.specs.Positions.{position_at};
 
 mod evaluation;

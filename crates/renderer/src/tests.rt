@@ -5,7 +5,7 @@ ghost use Rattle.graph_model.specs.Bounds.{AreUpTo};
 ghost use Rattle.graph_model.specs.Graphs.{output_name};
 ghost use Rattle.graph_model.specs.Sound.{Fits};
 ghost use Rattle.plan_model.specs.Alignments.{IsAlignment, position_in};
-ghost use Rattle.plan_model.specs.Certified.{AreLiveNodes};
+ghost use Rattle.plan_model.specs.Rules.{AreLiveNodes};
 
 use crate::{answer, answer_at};
 use connections::check;

@@ -1,11 +1,12 @@
-use Rattle.std.proofs.Common.{◌≡◌, suc, ◌+◌, ◌-◌, ◌*◌, ◌/◌, ◌<◌, ◌∷◌, ◌++◌, length, take, drop, sym, ◌∙◌, ap, subst, arith, rules}
+use Rattle.std.proofs.Common.{◌≡◌, suc, ◌+◌, ◌-◌, ◌*◌, ◌/◌, ◌<◌, ◌∷◌, ◌++◌, length, take, drop, sym, ◌∙◌, ap, subst, arith}
 use Rattle.std.proofs.lemmas.List.{with_items_is}
 use Rattle.graph_model.specs.Histories.{Frame, History, before, frame_in, interleaved, newest}
-use Rattle.graph_model.specs.Kinds.{ins_of, stream_of}
+use Rattle.graph_model.specs.Kinds.{ins_of, outs_of, stream_of}
 use Rattle.graph_model.specs.declared.graph.Bound.{Bound}
 use Rattle.graph_model.specs.Kernels.{IsFrameWithin}
 use Rattle.fixed_kernels.specs.Kernels.{Keeps}
-use Rattle.graph_model.proofs.StreamFacts.{frame_is, frame_within}
+use Rattle.graph_model.proofs.BlockLaws.{length-frame_in}
+use Rattle.graph_model.proofs.StreamFacts.{frame_is, frame_within, frames_whole}
 use Rattle.renderer.proofs.streams.outgoing.Goals as goal
 
 pub frame-requires : goal.frame-requires
@@ -18,8 +19,10 @@ frame-requires c =
     let within : IsFrameWithin c.args.bound.now.ins (frame_in (ins_of c.args.kind.now) c.args.incoming.now c.loop-time.time) =
     frame_within c.args.bound.now.ins (frame_in (ins_of c.args.kind.now) c.args.incoming.now) (length c.args.incoming.now / ins_of c.args.kind.now) c.loop-time.time c.requires.within early in
     record {
-      ins = search rules;
-      outs = search rules;
+      ins = ap length seen ∙ length-frame_in (ins_of c.args.kind.now) (length c.args.incoming.now / ins_of c.args.kind.now) c.args.incoming.now c.loop-time.time
+          (frames_whole (length c.args.incoming.now) (ins_of c.args.kind.now) c.requires.whole) early
+          ∙ ap ins_of (sym c.loop-time.invariant.kind);
+      outs = ap (λ xs. length xs) c.deref_mut.ensures.value ∙ c.loop-time.invariant.wide ∙ ap outs_of (sym c.loop-time.invariant.kind);
       within = subst (λ (b : Bound). IsFrameWithin b.ins cut) (sym c.loop-time.invariant.bound) (subst (IsFrameWithin c.args.bound.now.ins) (sym seen) within);
     }
 

@@ -1,6 +1,6 @@
 use Rattle.std.proofs.Common.{◌≡◌, List, [], ◌∷◌, map, sym, ◌∙◌, subst}
 use Rattle.plan_model.specs.Alignments.{IsAlignment, position_in}
-use Rattle.plan_model.specs.Certified.{AreLiveNodes}
+use Rattle.plan_model.specs.Rules.{AreLiveNodes}
 use Rattle.plan_model.specs.declared.alignment.At.{At}
 use Rattle.graph_model.specs.declared.graph.Graph.{Graph}
 use Rattle.test_graphs.specs.Graphs.{fan_out}
