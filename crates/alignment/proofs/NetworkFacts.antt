@@ -23,7 +23,7 @@ use Rattle.graph_model.specs.declared.graph.Uid.{Uid}
 use Rattle.graph_model.specs.declared.kind.Kind.{Kind}
 use Rattle.graph_model.specs.declared.kind.Kind.TheVariants.{Input, Output, Gain, Mixer, Fir, Biquad, Limiter, Delay, Insert}
 use Rattle.graph_model.proofs.HistoryLaws.{all_of}
-use Rattle.graph_model.proofs.PathLaws.{first_or_later, live_by_paths, live_source, same_name}
+use Rattle.graph_model.proofs.PathLaws.{first_or_later, live_source, same_name}
 use Rattle.graph_model.proofs.RangeLaws.{in_range}
 use Rattle.graph_model.proofs.RankLaws.{sound_is_ranked}
 use Rattle.graph_model.proofs.ReachLaws.{filter_from, filter_has, reach_after, reach_is_longest}

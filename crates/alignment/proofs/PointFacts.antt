@@ -1,8 +1,5 @@
 -- The points of a graph's network by their numbers.
-use Rattle.std.proofs.Common.{◌≡◌, ℕ, zero, suc, ◌+◌, ◌<◌, ◌≤◌, List, [], ◌∷◌, length, map, get_or, slice_index, refl, sym, ap, subst, ◌∙◌, arith, Bool, Contains, IsPermutation, ⊎_elim, inl, inr, nat_cmp, Option, Some, None, Result, Err, Bor}
-use Rattle.std.specs.Prelude.{is_some, IsSome, count_by}
-use Rattle.std.specs.List.{find}
-use Rattle.std.specs.Option.{option_copied}
+use Rattle.std.proofs.Common.{◌≡◌, ℕ, zero, suc, ◌+◌, ◌<◌, ◌≤◌, List, [], ◌∷◌, length, map, get_or, slice_index, refl, sym, ap, subst, ◌∙◌, arith, Contains, IsPermutation, ⊎_elim, inl, inr, nat_cmp, Result, Err}
 use Rattle.std.specs.Result.{MatchResult}
 use Rattle.std.specs.List.Sorted.{IsStrictlyIncreasing, IsSorted, IsNonDecreasingBy, IsBinarySearchResult}
 use Rattle.std.proofs.lemmas.Bool.{cases_order, cases_lt}
@@ -10,7 +7,6 @@ use Rattle.std.proofs.lemmas.List.Sums.{count_by-le-length, length-filter}
 use Rattle.std.proofs.lemmas.List.Sorted.{All-permutation, Contains-permutation, length_permutation, IsNonDecreasingBy-from_sort, searched}
 use Rattle.std.proofs.lemmas.List.{length-map, get_or_default}
 use Rattle.std.proofs.lemmas.List.Kept.{AllPairs-from_increasing}
-use Rattle.alignment.proofs.ArcFacts.{find_one}
 use Rattle.std.proofs.lemmas.List.Elements.{All-from_recursion, recursion_from_All, Contains-get_or}
 use Rattle.graph_model.proofs.PathLaws.{at_tail}
 use Rattle.graph_model.proofs.ReachLaws.{filter_from}

@@ -2,15 +2,15 @@
 use Rattle.std.proofs.Common.{◌≡◌, ℕ, ◌+◌, ◌≤◌, ℤ, pos, ◌+ℤ◌, ◌-ℤ◌, neg_ℤ, ◌≤ℤ◌, List, [], ◌∷◌, map, get_or, refl, sym, ap, ◌∙◌, arith, cond, true, None, inl, inr}
 use Rattle.std.specs.List.{Contains}
 use Rattle.std.proofs.lemmas.Int.{ints}
-use Rattle.std.proofs.lemmas.List.Elements.{All-contains, All-map, All-weaker, All-from_recursion, Contains-get_or, Contains-append_left, Contains-append_right}
+use Rattle.std.proofs.lemmas.List.Elements.{All-contains, All-map, All-weaker, Contains-get_or, Contains-append_left, Contains-append_right}
 use Rattle.graph_model.specs.Graphs.{latency_at, input_name, output_name}
 use Rattle.graph_model.specs.Paths.{IsPathTo, IsLive, is_live, live_nodes, live_connections, depth, latency_of_graph}
 use Rattle.graph_model.specs.Sound.{IsSound}
 use Rattle.graph_model.specs.Members.{bad_member}
-use Rattle.graph_model.proofs.PathLaws.{live_by_test, live_by_paths, live_source, first_or_later}
+use Rattle.graph_model.proofs.PathLaws.{live_source, first_or_later}
 use Rattle.graph_model.proofs.RangeLaws.{in_range}
-use Rattle.graph_model.proofs.RankLaws.{all_in, sound_is_ranked}
-use Rattle.graph_model.proofs.ReachLaws.{filter_has, filter_from}
+use Rattle.graph_model.proofs.RankLaws.{sound_is_ranked}
+use Rattle.graph_model.proofs.ReachLaws.{filter_has}
 use Rattle.graph_model.specs.declared.graph.Node.{Node}
 use Rattle.graph_model.specs.declared.graph.Connection.{Connection}
 use Rattle.graph_model.specs.declared.graph.Graph.{Graph}
