@@ -10,7 +10,11 @@
 #![tactic(auto)]
 
 mod edges;
+mod heap;
+mod leaving;
 mod search;
 
 pub use edges::{Distances, Edge};
+pub use heap::{Searcher, nearest};
+pub use leaving::Leaving;
 pub use search::distances;

@@ -3,7 +3,6 @@ use Rattle.std.proofs.lemmas.Int.{ints, fits_signed_from_abs}
 use Rattle.shortest_paths.specs.Walks.{number_of}
 use Rattle.min_cost_flow.specs.Search.{potential_of}
 use Rattle.min_cost_flow.specs.Solve.{IsMeeting, wanted}
-use Rattle.min_cost_flow.proofs.TightLemmas.{residual_cycles}
 use Rattle.min_cost_flow.proofs.SolveLemmas.{within_needs_of, most_some, wanted_falls, room_for, fits, IsMeeting-next}
 use Rattle.min_cost_flow.proofs.augment.augment.Goals as goal
 
@@ -49,7 +48,6 @@ returns-then-is_unmet_at_both-clause-meeting c =
     let counted = subst (λ z. c.count_sent.new.unmet ≡ set (set u from (number_of u from +ℤ z)) c.args.to (number_of u c.args.to -ℤ z)) fit c.count_sent.ensures in
     subst (λ x. IsMeeting net c.send-units.new.flow x) (sym counted)
     (IsMeeting-next net c.args.flow.now u from c.args.to c.send-units.result c.requires.meeting w c.send-units.new.flow c.send-units.auto.flow c.send-units.ensures.sent
-    (λ edges steps r. residual_cycles net.arcs c.send-units.new.flow edges steps r (potential_of c.args.walks.now.least.least) c.send-units.ensures.tight)
     c.send-units.ensures.bound)
 
 pub returns-then-is_unmet_at_both-clause-no_more : goal.returns-then-is_unmet_at_both-clause-no_more
