@@ -64,3 +64,6 @@ pub usable_none : (n : ℕ) (edges : List Edge) → usable_after n edges [] ≡ 
 usable_none n [] = refl
 usable_none (suc n) (e ∷ edges) = ap (λ x. e ∷ x) (usable_none n edges)
 usable_none zero (e ∷ edges) = refl
+
+pub usable_unlimited : (edges : List Edge) → usable edges [] ≡ edges
+usable_unlimited edges = usable_none (length edges - 0) edges

@@ -268,6 +268,7 @@ fn cut_at(
     requires point { point < length best.now }
     requires numbers { length numbers.old ≡ length best.now }
     requires last { length last.old ≡ length best.now }
+    requires bounded { AreBounded best.now }
     requires number { IsWithin (2 ^ 60) (number_of numbers.old point) }
     requires limit { IsWithin (2 ^ 62) limit }
 
@@ -284,6 +285,7 @@ fn cut_at(
 fn cut(best: &[Option<Best>], limit: i64, numbers: &mut [i64], last: &mut [Option<u32>])
     requires numbers { length numbers.old ≡ length best.now }
     requires last { length last.old ≡ length best.now }
+    requires bounded { AreBounded best.now }
     requires small { AreSmall numbers.old }
     requires limit { IsWithin (2 ^ 62) limit }
 

@@ -5,6 +5,7 @@ use Rattle.shortest_paths.specs.Walks.{IsWithin}
 use Rattle.shortest_paths.specs.Search.{IsSearched}
 use Rattle.shortest_paths.specs.Usable.{usable}
 use Rattle.shortest_paths.specs.Nearest.{AllWait, IsCut}
+use Rattle.shortest_paths.proofs.EndLemmas.{found_within}
 use Rattle.shortest_paths.proofs.RoundLemmas.{searched_first}
 use Rattle.shortest_paths.proofs.WaitLemmas.{waits_first}
 use Rattle.shortest_paths.proofs.CutLemmas.{permits_new, start_new, ends_new, tree_new}
@@ -109,3 +110,11 @@ returns-clause-stop c =
     let len_last = c.cut.auto.last ∙ c.requires.lasts in
     stop_reached edges n c.args.from c.settle.new.best c.args.numbers.now c.args.wanted.now stop.limit c.requires.points len c.requires.ends c.requires.costs s c.requires.small c.requires.permits
     c.cut.new.numbers c.cut.new.last len_last c.requires.start c.in_ok-stop.ensures.settled cut stop.point c.in_ok-stop.ensures.stop c.requires.reached
+
+pub cut-requires-clause-bounded : goal.cut-requires-clause-bounded
+cut-requires-clause-bounded c v b l f =
+    let edges = usable c.args.edges.now c.args.limits.now in
+    let n = length c.args.best.now in
+    let len = c.settle.auto.best ∙ c.begin.auto.best in
+    let s = c.in_ok-stop.ensures.kept c.args.from (subst (λ b. IsSearched edges c.args.from b) (sym c.in_ok-begin.ensures.best) (searched_first edges n c.args.from c.requires.start)) in
+    found_within edges n c.args.from c.settle.new.best v b c.requires.points c.requires.ends c.requires.costs s (omega (arith, l, len)) f
