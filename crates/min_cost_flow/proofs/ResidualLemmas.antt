@@ -1,5 +1,5 @@
 -- The edges of the residual network, made one arc at a time.
-use Rattle.std.proofs.Common.{◌≡◌, ℕ, zero, suc, ◌+◌, ◌-◌, ◌*◌, ◌<◌, ◌≤◌, ℤ, pos, List, [], ◌∷◌, ◌++◌, length, Some, ◌⊎◌, inl, inr, refl, sym, ap, subst, ◌∙◌, arith, slice_get, slice_index, cond, nat_eq, Bool, true, false, length-append}
+use Rattle.std.proofs.Common.{◌≡◌, ℕ, zero, suc, ◌+◌, ◌-◌, ◌*◌, ◌<◌, ◌≤◌, ℤ, pos, List, [], ◌∷◌, ◌++◌, length, Some, ◌⊎◌, inl, inr, refl, sym, ap, subst, ◌∙◌, arith, slice_get, slice_index, get_or, cond, nat_eq, Bool, true, false, length-append}
 use Rattle.std.specs.List.{Contains, All}
 use Rattle.std.proofs.lemmas.Bool.{cases_eq, cases_lt}
 use Rattle.std.proofs.lemmas.Bool.Decides.{nat_tests}
@@ -147,10 +147,12 @@ module _ (arcs : List Arc) (flow : List ℕ) (edges : List Edge) (steps : List S
       elim (cases_lt i (length arcs)) [
         | inl less ↦
             let arc = slice_get-get_or arcs i (record { tail = 0; head = 0; least = pos 0 }) less in
-            subst P (some_same _ _ (sym (r.forwards i _ arc).0 ∙ at)) (both i _ arc).0
+            let b : Arc = get_or arcs i (record { tail = 0; head = 0; least = pos 0 }) in
+            subst P (some_same (forward b) (get_or edges i d) (sym (r.forwards i b arc).0 ∙ at)) (both i b arc).0
         | inr ge ↦
             let k = i - length arcs in
             let i_is : length arcs + k ≡ i = omega arith in
             let arc = slice_get-get_or arcs k (record { tail = 0; head = 0; least = pos 0 }) (omega arith) in
-            subst P (some_same _ _ (sym (subst (λ x. slice_get edges x ≡ Some _) i_is (r.backwards k _ arc).0) ∙ at)) (both k _ arc).1
+            let b : Arc = get_or arcs k (record { tail = 0; head = 0; least = pos 0 }) in
+            subst P (some_same (backward b) (get_or edges i d) (sym (subst (λ x. slice_get edges x ≡ Some (backward b)) i_is (r.backwards k b arc).0) ∙ at)) (both k b arc).1
       ]

@@ -92,6 +92,10 @@ forward_reached arcs u v r = back r.0 u r.1
         let head = ap (λ (x : Edge). x.head) a.2 in
         (forward a.0 ∷ rest.0, (edge_at (map forward arcs) k.0 (forward a.0) (forward_at arcs a.0 k.0 a.1), tail ∙ h.1, subst (λ x. IsWalk (map forward arcs) x rest.0 v) (sym head) rest.1))
 
+pub forward_length : (arcs : List Arc) → length (map forward arcs) ≡ length arcs
+forward_length [] = refl
+forward_length (a ∷ arcs) = ap suc (forward_length arcs)
+
 pub forward_joins : (points : ℕ) (arcs : List Arc) → All (λ (a : Arc). (a.tail < points) × (a.head < points)) arcs → All (Joins points) (map forward arcs)
 forward_joins points arcs ends k d l =
     let at = slice_get-get_or (map forward arcs) k d l in

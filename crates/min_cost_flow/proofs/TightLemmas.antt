@@ -4,7 +4,6 @@ use Rattle.std.specs.List.{Contains, All}
 use Rattle.std.proofs.lemmas.Int.{ints}
 use Rattle.std.proofs.lemmas.Bool.{cases_eq, cases_lt}
 use Rattle.std.proofs.lemmas.Option.{slice_get_within, get_or_from_slice_get, slice_get-get_or}
-use Rattle.std.proofs.lemmas.List.{get_or_beyond}
 use Rattle.std.proofs.lemmas.List.Elements.{Contains-get_or, All-contains}
 use Rattle.min_cost_flow.specs.declared.network.Arc.{Arc}
 use Rattle.min_cost_flow.specs.declared.network.Network.{Network}
@@ -23,6 +22,11 @@ use Rattle.shortest_paths.specs.Nearest.{Permits, AreSmall, IsLinked}
 use Rattle.shortest_paths.proofs.UsableLemmas.{usable_tail, usable_all}
 use Rattle.shortest_paths.proofs.ShortLemmas.{number_within}
 use Rattle.shortest_paths.proofs.WalkLemmas.{some_same, edge_at}
+
+number_beyond : (numbers : List ℤ) (v : ℕ) → length numbers ≤ v → number_of numbers v ≡ pos 0
+number_beyond [] v l = refl
+number_beyond (x ∷ numbers) zero l = absurd (omega arith)
+number_beyond (x ∷ numbers) (suc v) l = number_beyond numbers v (omega arith)
 
 -- an edge of a list that has it, at its place
 at_place : {X : Type 0} (xs : List X) (x : X) → Contains xs x → (k : ℕ) × (slice_get xs k ≡ Some x)
@@ -89,7 +93,7 @@ module _ (arcs : List Arc) (flow : List ℕ) (edges : List Edge) (steps : List S
             (usable_all (Joins points) _ edges flow (λ e j. (j.0, j.0)) (residual_joins points ends))
             (usable_all (λ (e : Edge). IsWithin (2 ^ 46) e.cost) _ edges flow (λ e w. (omega (arith, ints), omega (arith, ints))) (residual_costs leasts))
             inside l is_zero (permits_from_tight numbers t) (residual_reached zero_at v (connected zero_at v inside l)) (residual_reached v zero_at (connected v zero_at l inside))
-        | inr ge ↦ let z : number_of numbers v ≡ pos 0 = get_or_beyond numbers v (pos 0) (omega arith) in (omega (arith, ints), omega (arith, ints))
+        | inr ge ↦ let z = number_beyond numbers v (omega arith) in (omega (arith, ints), omega (arith, ints))
       ]
 
   -- ---- the tree of a search

@@ -58,6 +58,29 @@ fn count_sent(unmet: &mut [i64], from: usize, to: usize, units: i64)
 
 // Sends units along the cheapest walk to `to`, from a point of excess to a point of deficit: as many as the unmet needs of
 // both and the walk allow. Where the walks are those of this very flow, some go.
+fn augment_reached(net: &Network, flow: &mut [u64], unmet: &mut [i64], walks: &Walks, to: u32)
+    requires network { IsNetwork net.now }
+    requires meeting { IsMeeting net.now flow.old unmet.old }
+    requires walks { (searched : Sequence ℕ) × IsSearchOf net.now searched walks.now.from walks.now.residual walks.now.search }
+    requires tight { IsTight net.now.arcs flow.old (potential_of walks.now.search.numbers.items) }
+    requires from { walks.now.from < net.now.points }
+    requires to { to < net.now.points }
+    requires linked { IsLinked walks.now.search.last.items to }
+
+    ensures meeting { IsMeeting net.now flow.new unmet.new }
+    ensures tight { IsTight net.now.arcs flow.new (potential_of walks.now.search.numbers.items) }
+    ensures no_more { wanted unmet.new ≤ wanted unmet.old }
+    ensures fewer { IsSearchOf net.now flow.old walks.now.from walks.now.residual walks.now.search → number_of unmet.old walks.now.from <ℤ pos 0 → pos 0 <ℤ number_of unmet.old to → wanted unmet.new < wanted unmet.old }
+{
+    let from = walks.from as usize;
+    if is_unmet_at_both(unmet, from, to as usize) {
+        let most = unmet_at_both(unmet, from, to as usize);
+        let units = send(net, flow, walks, to, most);
+        count_sent(unmet, from, to as usize, units as i64);
+    }
+}
+
+// So it is done where a cheapest walk leads to `to`; else nothing changes.
 fn augment(net: &Network, flow: &mut [u64], unmet: &mut [i64], walks: &Walks, to: u32)
     requires network { IsNetwork net.now }
     requires meeting { IsMeeting net.now flow.old unmet.old }
@@ -71,14 +94,8 @@ fn augment(net: &Network, flow: &mut [u64], unmet: &mut [i64], walks: &Walks, to
     ensures no_more { wanted unmet.new ≤ wanted unmet.old }
     ensures fewer { IsSearchOf net.now flow.old walks.now.from walks.now.residual walks.now.search → number_of unmet.old walks.now.from <ℤ pos 0 → pos 0 <ℤ number_of unmet.old to → IsLinked walks.now.search.last.items to → wanted unmet.new < wanted unmet.old }
 {
-    let from = walks.from as usize;
-    if !is_reached(&walks.search.last, to as usize) {
-        return;
-    }
-    if is_unmet_at_both(unmet, from, to as usize) {
-        let most = unmet_at_both(unmet, from, to as usize);
-        let units = send(net, flow, walks, to, most);
-        count_sent(unmet, from, to as usize, units as i64);
+    if is_reached(&walks.search.last, to as usize) {
+        augment_reached(net, flow, unmet, walks, to);
     }
 }
 

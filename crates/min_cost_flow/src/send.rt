@@ -55,7 +55,7 @@ fn carried_to(net: &Network, flow: &[u64], walks: &Walks, to: u32, most: u64) ->
     let mut units = most;
     let mut at = to;
     for _ in 0..net.points {
-        let Some(k) = walks.search.last[at as usize] else {
+        let Some(k) = walks.search.last.as_slice()[at as usize] else {
             break;
         };
         units = carried(flow, walks.residual.steps[k as usize], units);
@@ -86,7 +86,7 @@ pub(crate) fn send(net: &Network, flow: &mut [u64], walks: &Walks, to: u32, most
     let units = carried_to(net, flow, walks, to, most);
     let mut at = to;
     for _ in 0..net.points {
-        let Some(k) = walks.search.last[at as usize] else {
+        let Some(k) = walks.search.last.as_slice()[at as usize] else {
             break;
         };
         push(flow, walks.residual.steps[k as usize], units);

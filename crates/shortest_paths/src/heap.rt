@@ -337,8 +337,8 @@ impl Searcher {
     ///
     /// Afterwards that is so again, and the number of `from` is 0. A point in the tree has in `last` the index of an edge
     /// that ends a least walk to it, and its number is the cost of that walk; from it the edges of `last` lead back to
-    /// `from` in fewer steps than there are points. The others have None in `last`, as `from` has. After a failure, for
-    /// want of memory, the sizes are as they were.
+    /// `from` in fewer steps than there are points. The others have None in `last`, as `from` has. The call fails only for
+    /// want of memory; the searcher is of no use then.
     pub fn run(
         &mut self,
         edges: &[Edge],
@@ -491,4 +491,28 @@ pub fn nearest(
     let least = List::from_slice(alloc, &search.numbers)?;
     let last = List::from_slice(alloc, &search.last)?;
     Ok(Distances { least, last })
+}
+
+#[cfg(test)]
+mod tests {
+    use super::nearest;
+    use crate::edges::Edge;
+    use std::test::Fail;
+
+    // From `tail` to `head` at this cost.
+    fn edge(tail: u32, head: u32, cost: i64) -> Edge
+        ensures { result ≡ record { tail = tail; head = head; cost = cost } }
+    {
+        Edge { tail, head, cost }
+    }
+
+    #[test]
+    fn the_nearer_of_two_walks(rt: HostRuntime) -> Result<(), Fail> {
+        let alloc = rt.alloc();
+        let edges = [edge(0, 1, 2), edge(1, 2, 3), edge(0, 2, 9)];
+        let found = nearest(alloc, 3, &edges, 0)?;
+        assert_eq!(rt; found.least.as_slice(), [0, 2, 5].as_slice());
+        assert_eq!(rt; found.last.as_slice(), [None, Some(0), Some(1)].as_slice());
+        Ok(())
+    }
 }

@@ -26,9 +26,9 @@ loop-j-preserved c =
     let arcs = c.args.arcs.now in
     let at = slice_get-get_or arcs c.loop-j.j (record { tail = 0; head = 0; least = pos 0 }) c.loop-j-test.true in
     let a : Arc = get_or arcs c.loop-j.j (record { tail = 0; head = 0; least = pos 0 }) in
-    let edges = c.in_ok-add-in-loop-j.ensures.edges ∙ ap (λ e. c.loop-j.residual.edges.items ++ e ∷ []) c.one_fewer.ensures in
+    let edges = c.in_ok-add-2.ensures.edges ∙ ap (λ e. c.loop-j.residual.edges.items ++ e ∷ []) c.one_fewer.ensures in
     subst (λ x. IsResidualTo arcs (length arcs) (c.loop-j.j + 1) x c.add-in-loop-j.new.self.steps.items) (sym edges)
-    (subst (λ x. IsResidualTo arcs (length arcs) (c.loop-j.j + 1) (c.loop-j.residual.edges.items ++ backward a ∷ []) x) (sym c.in_ok-add-in-loop-j.ensures.steps)
+    (subst (λ x. IsResidualTo arcs (length arcs) (c.loop-j.j + 1) (c.loop-j.residual.edges.items ++ backward a ∷ []) x) (sym c.in_ok-add-2.ensures.steps)
     (IsResidualTo-backward arcs (length arcs) c.loop-j.j c.loop-j.residual.edges.items c.loop-j.residual.steps.items a refl c.loop-j.invariant at))
 
 pub returns : goal.returns

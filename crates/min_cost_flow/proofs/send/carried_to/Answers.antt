@@ -12,7 +12,7 @@ loop-init c = let s = c.requires.walks in record { at = c.requires.to; carrying 
 pub index-requires : goal.index-requires
 index-requires c =
     let s = c.requires.walks in
-    let h = here c.args.net.now s.0 c.args.walks.now.from c.args.to c.args.walks.now.residual c.args.walks.now.search s.1 c.loop.at c.in-Some.k c.args.walks.now.search.last.items c.loop.invariant.at refl c.in-Some.is in
+    let h = here c.args.net.now s.0 c.args.walks.now.from c.args.to c.args.walks.now.residual c.args.walks.now.search s.1 c.loop.at c.in-Some.k c.as_slice.result.now c.loop.invariant.at c.as_slice.ensures.value c.in-Some.is in
     let l = slice_get_within c.args.walks.now.residual.steps.items c.in-Some.k h.step h.step_there in
     let len = c.args.walks.now.residual.steps.ok.0 in
     omega (arith, l, len)
@@ -20,7 +20,7 @@ index-requires c =
 pub index-requires-in-loop : goal.index-requires-in-loop
 index-requires-in-loop c =
     let s = c.requires.walks in
-    let h = here c.args.net.now s.0 c.args.walks.now.from c.args.to c.args.walks.now.residual c.args.walks.now.search s.1 c.loop.at c.in-Some.k c.args.walks.now.search.last.items c.loop.invariant.at refl c.in-Some.is in
+    let h = here c.args.net.now s.0 c.args.walks.now.from c.args.to c.args.walks.now.residual c.args.walks.now.search s.1 c.loop.at c.in-Some.k c.as_slice.result.now c.loop.invariant.at c.as_slice.ensures.value c.in-Some.is in
     let l = slice_get_within c.args.walks.now.residual.edges.items c.in-Some.k h.edge h.there in
     let len = c.args.walks.now.residual.edges.ok.0 in
     omega (arith, l, len)
@@ -28,7 +28,7 @@ index-requires-in-loop c =
 pub carried-units-requires : goal.carried-units-requires
 carried-units-requires c =
     let s = c.requires.walks in
-    let h = here c.args.net.now s.0 c.args.walks.now.from c.args.to c.args.walks.now.residual c.args.walks.now.search s.1 c.loop.at c.in-Some.k c.args.walks.now.search.last.items c.loop.invariant.at refl c.in-Some.is in
+    let h = here c.args.net.now s.0 c.args.walks.now.from c.args.to c.args.walks.now.residual c.args.walks.now.search s.1 c.loop.at c.in-Some.k c.as_slice.result.now c.loop.invariant.at c.as_slice.ensures.value c.in-Some.is in
     let same = c.index.ensures ∙ get_or_from_slice_get c.args.walks.now.residual.steps.items c.in-Some.k h.step c.index.result.now h.step_there in
     let l = arc_within c.args.net.now s.0 c.args.walks.now.from c.args.to c.args.walks.now.residual c.args.walks.now.search s.1 c.loop.at c.in-Some.k h in
     let many = c.requires.units in
@@ -38,7 +38,7 @@ pub loop-preserved : goal.loop-preserved
 loop-preserved c =
     let net = c.args.net.now in
     let s = c.requires.walks in
-    let h = here net s.0 c.args.walks.now.from c.args.to c.args.walks.now.residual c.args.walks.now.search s.1 c.loop.at c.in-Some.k c.args.walks.now.search.last.items c.loop.invariant.at refl c.in-Some.is in
+    let h = here net s.0 c.args.walks.now.from c.args.to c.args.walks.now.residual c.args.walks.now.search s.1 c.loop.at c.in-Some.k c.as_slice.result.now c.loop.invariant.at c.as_slice.ensures.value c.in-Some.is in
     let same = c.index.ensures ∙ get_or_from_slice_get c.args.walks.now.residual.steps.items c.in-Some.k h.step c.index.result.now h.step_there in
     let same_edge = c.index-in-loop.ensures ∙ get_or_from_slice_get c.args.walks.now.residual.edges.items c.in-Some.k h.edge c.index-in-loop.result.now h.there in
     let units = c.carried-units.ensures ∙ ap (λ (x : Step). cond x.back (min c.loop.units (slice_index c.args.flow.now x.arc)) c.loop.units) same in
@@ -60,7 +60,7 @@ pub returns-in_default-clause-room : goal.returns-in_default-clause-room
 returns-in_default-clause-room c =
     let s = c.requires.walks in
     all_carried c.args.net.now s.0 c.args.flow.now c.args.walks.now.from c.args.to c.args.most c.args.walks.now.residual c.args.walks.now.search s.1 c.loop.units c.loop.at c.loop.counter
-    c.args.walks.now.search.last.items c.loop.invariant.carrying c.loop.invariant.at refl c.in_default.is
+    c.as_slice.result.now c.loop.invariant.carrying c.loop.invariant.at c.as_slice.ensures.value c.in_default.is
 
 pub returns-after-loop-clause-some : goal.returns-after-loop-clause-some
 returns-after-loop-clause-some c = c.loop.invariant.carrying.some

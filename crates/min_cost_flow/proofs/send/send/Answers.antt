@@ -12,28 +12,28 @@ loop-init c = record { at = c.requires.to; sending = first_sending c.args.net.no
 
 pub index-requires : goal.index-requires
 index-requires c =
-    let h = here c.args.net.now c.requires.walks.0 c.args.walks.now.from c.args.to c.args.walks.now.residual c.args.walks.now.search c.requires.walks.1 c.loop.at c.in-Some.k c.args.walks.now.search.last.items c.loop.invariant.at refl c.in-Some.is in
+    let h = here c.args.net.now c.requires.walks.0 c.args.walks.now.from c.args.to c.args.walks.now.residual c.args.walks.now.search c.requires.walks.1 c.loop.at c.in-Some.k c.as_slice.result.now c.loop.invariant.at c.as_slice.ensures.value c.in-Some.is in
     let l = slice_get_within c.args.walks.now.residual.steps.items c.in-Some.k h.step h.step_there in
     let len = c.args.walks.now.residual.steps.ok.0 in
     omega (arith, l, len)
 
 pub index-requires-in-loop : goal.index-requires-in-loop
 index-requires-in-loop c =
-    let h = here c.args.net.now c.requires.walks.0 c.args.walks.now.from c.args.to c.args.walks.now.residual c.args.walks.now.search c.requires.walks.1 c.loop.at c.in-Some.k c.args.walks.now.search.last.items c.loop.invariant.at refl c.in-Some.is in
+    let h = here c.args.net.now c.requires.walks.0 c.args.walks.now.from c.args.to c.args.walks.now.residual c.args.walks.now.search c.requires.walks.1 c.loop.at c.in-Some.k c.as_slice.result.now c.loop.invariant.at c.as_slice.ensures.value c.in-Some.is in
     let l = slice_get_within c.args.walks.now.residual.edges.items c.in-Some.k h.edge h.there in
     let len = c.args.walks.now.residual.edges.ok.0 in
     omega (arith, l, len)
 
 pub push-requires-clause-arc : goal.push-requires-clause-arc
 push-requires-clause-arc c =
-    let h = here c.args.net.now c.requires.walks.0 c.args.walks.now.from c.args.to c.args.walks.now.residual c.args.walks.now.search c.requires.walks.1 c.loop.at c.in-Some.k c.args.walks.now.search.last.items c.loop.invariant.at refl c.in-Some.is in
+    let h = here c.args.net.now c.requires.walks.0 c.args.walks.now.from c.args.to c.args.walks.now.residual c.args.walks.now.search c.requires.walks.1 c.loop.at c.in-Some.k c.as_slice.result.now c.loop.invariant.at c.as_slice.ensures.value c.in-Some.is in
     let same = c.index.ensures ∙ get_or_from_slice_get c.args.walks.now.residual.steps.items c.in-Some.k h.step c.index.result.now h.step_there in
     subst (λ (s : Step). s.arc < length c.loop.flow) (sym same)
     (step_within c.args.net.now c.requires.walks.0 c.args.walks.now.from c.args.to c.args.walks.now.residual c.args.walks.now.search c.requires.walks.1 c.args.flow.now c.carried_to-units.result c.loop.flow c.loop.at c.loop.counter c.in-Some.k c.requires.units c.carried_to-units.ensures.room c.loop.invariant.sending h)
 
 pub push-requires-clause-there : goal.push-requires-clause-there
 push-requires-clause-there c =
-    let h = here c.args.net.now c.requires.walks.0 c.args.walks.now.from c.args.to c.args.walks.now.residual c.args.walks.now.search c.requires.walks.1 c.loop.at c.in-Some.k c.args.walks.now.search.last.items c.loop.invariant.at refl c.in-Some.is in
+    let h = here c.args.net.now c.requires.walks.0 c.args.walks.now.from c.args.to c.args.walks.now.residual c.args.walks.now.search c.requires.walks.1 c.loop.at c.in-Some.k c.as_slice.result.now c.loop.invariant.at c.as_slice.ensures.value c.in-Some.is in
     let same = c.index.ensures ∙ get_or_from_slice_get c.args.walks.now.residual.steps.items c.in-Some.k h.step c.index.result.now h.step_there in
     subst (λ (s : Step). s.back ≡ true → c.carried_to-units.result ≤ slice_index c.loop.flow s.arc) (sym same)
     (step_has_units c.args.net.now c.requires.walks.0 c.args.walks.now.from c.args.to c.args.walks.now.residual c.args.walks.now.search c.requires.walks.1 c.args.flow.now c.carried_to-units.result c.loop.flow c.loop.at c.loop.counter c.in-Some.k c.requires.units c.carried_to-units.ensures.room c.loop.invariant.sending h)
@@ -43,7 +43,7 @@ loop-preserved c =
     let net = c.args.net.now in
     let units = c.carried_to-units.result in
     let search = c.requires.walks.1 in
-    let h = here net c.requires.walks.0 c.args.walks.now.from c.args.to c.args.walks.now.residual c.args.walks.now.search search c.loop.at c.in-Some.k c.args.walks.now.search.last.items c.loop.invariant.at refl c.in-Some.is in
+    let h = here net c.requires.walks.0 c.args.walks.now.from c.args.to c.args.walks.now.residual c.args.walks.now.search search c.loop.at c.in-Some.k c.as_slice.result.now c.loop.invariant.at c.as_slice.ensures.value c.in-Some.is in
     let same = c.index.ensures ∙ get_or_from_slice_get c.args.walks.now.residual.steps.items c.in-Some.k h.step c.index.result.now h.step_there in
     let same_edge = c.index-in-loop.ensures ∙ get_or_from_slice_get c.args.walks.now.residual.edges.items c.in-Some.k h.edge c.index-in-loop.result.now h.there in
     let next = step_sending net c.requires.walks.0 c.args.walks.now.from c.args.to c.args.walks.now.residual c.args.walks.now.search search c.args.flow.now units c.loop.flow c.loop.at c.loop.counter c.in-Some.k c.requires.units c.carried_to-units.ensures.room c.loop.invariant.sending h in
@@ -58,7 +58,7 @@ loop-preserved c =
 pub returns-in_default-clause-sent : goal.returns-in_default-clause-sent
 returns-in_default-clause-sent c =
     sent_at_root c.args.net.now c.requires.walks.0 c.args.flow.now c.args.walks.now.from c.args.to c.carried_to-units.result c.args.walks.now.residual c.args.walks.now.search c.loop.flow c.loop.at c.loop.counter
-    c.args.walks.now.search.last.items c.requires.walks.1 c.loop.invariant.sending c.loop.invariant.at refl c.in_default.is
+    c.as_slice.result.now c.requires.walks.1 c.loop.invariant.sending c.loop.invariant.at c.as_slice.ensures.value c.in_default.is
 
 pub returns-in_default-clause-tight : goal.returns-in_default-clause-tight
 returns-in_default-clause-tight c = c.loop.invariant.sending.tight (potential_of c.args.walks.now.search.numbers.items) c.requires.tight c.requires.walks.1.tree_tight
