@@ -72,9 +72,10 @@ IsResidualTo-backward arcs n m edges steps a all r at = record {
       let t = r.steps_each in
       elim (cases_eq k m) [
         | inl same ↦
-            let is : a ≡ b = some_same a b (sym at ∙ subst (λ x. slice_get arcs x ≡ Some b) same h) in
-            (slice_get-push_at edges (backward a) (length arcs + k) (omega arith) ∙ ap (λ x. Some (backward x)) is,
-              slice_get-push_at steps (record { arc = m; back = true }) (length arcs + k) (omega arith) ∙ ap (λ x. Some (record { arc = x; back = true })) (sym same))
+            let is : a ≡ b = some_same a b (sym at ∙ subst (λ x. slice_get arcs x ≡ Some b) same h) in (
+              slice_get-push_at edges (backward a) (length arcs + k) (omega arith) ∙ ap (λ x. Some (backward x)) is,
+              slice_get-push_at steps (record { arc = m; back = true }) (length arcs + k) (omega arith) ∙ ap (λ x. Some (record { arc = x; back = true })) (sym same),
+            )
         | inr ne ↦
             let q = r.backwards k b (omega arith) h in
             (slice_get-append_left edges (backward a ∷ []) (backward b) (length arcs + k) q.0, slice_get-append_left steps (record { arc = m; back = true } ∷ []) _ (length arcs + k) q.1)
@@ -134,8 +135,12 @@ module _ (arcs : List Arc) (flow : List ℕ) (edges : List Edge) (steps : List S
               | inr some ↦
                   let units : 0 < slice_index flow k = omega arith in
                   let is = some_same _ e (sym (backward_in k _ at units) ∙ here) in
-                  inl (record { arc = k; back = true }, subst (λ x. slice_get steps x ≡ Some (record { arc = k; back = true })) i_is q.1,
-                    subst (λ x. slice_get edges x ≡ Some e) i_is (q.0 ∙ ap Some is), subst (λ x. IsMove arcs flow x (record { arc = k; back = true })) is (fewer k _ at units))
+                  inl (
+                    record { arc = k; back = true },
+                    subst (λ x. slice_get steps x ≡ Some (record { arc = k; back = true })) i_is q.1,
+                    subst (λ x. slice_get edges x ≡ Some e) i_is (q.0 ∙ ap Some is),
+                    subst (λ x. IsMove arcs flow x (record { arc = k; back = true })) is (fewer k _ at units),
+                  )
             ]
       ]
 

@@ -289,7 +289,7 @@ module _ (net : Network) (flow : List ℕ) (unmet : List ℤ) (from to n : ℕ) 
         let c = m.balanced in
         let d = at_to' in
         omega (arith, ints);
-      room = λ k. let a = bound k in let b = m.room k in let c = wanted_falls in omega arith;
+    room = λ k. let a = bound k in let b = m.room k in let c = wanted_falls in omega arith;
   }
 
 -- ---- the end

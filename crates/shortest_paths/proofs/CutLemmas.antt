@@ -74,8 +74,8 @@ module _ (edges : List Edge) (points from : ℕ) (best : List (Option Best)) (li
         | inr away ↦ let q = sym away.2 ∙ named in absurd (cc)
         | inl near ↦
             let apart : v ≢ from = λ same.
-                let is = some_same near.0 (record { cost = pos 0; last = None }) (sym near.1 ∙ subst (λ x. found best x ≡ Some (record { cost = pos 0; last = None })) (sym same) s.start) in
-                let q = sym named ∙ near.4 ∙ ap (λ (x : Best). x.last) is in cc in
+            let is = some_same near.0 (record { cost = pos 0; last = None }) (sym near.1 ∙ subst (λ x. found best x ≡ Some (record { cost = pos 0; last = None })) (sym same) s.start) in
+            let q = sym named ∙ near.4 ∙ ap (λ (x : Best). x.last) is in cc in
             let o = s.lasts v near.0 apart near.1 in
             let k_is : k ≡ o.index = let q = sym named ∙ near.4 ∙ o.is_last in cc in
             let has = edge_at edges o.index o.edge o.at in

@@ -62,10 +62,11 @@ module _ (points : ℕ) (edges : List Edge) (n : ℕ) (newest older : List (Opti
         )
         | inr ne ↦
             let q = h.newest_is v l in
-            let there : v < length newest = omega arith in
-            (q.0,
+            let there : v < length newest = omega arith in (
+              q.0,
               slice_get-get_or (set newest e.tail (Some n)) v None long ∙ ap Some (get_or-set_other newest e.tail v (Some n) None ne) ∙ sym (slice_get-get_or newest v None there) ∙ q.1,
-              latest_other edges n v e q.0 at ne q.2)
+              latest_other edges n v e q.0 at ne q.2,
+            )
       ]
 
   older_next : (k : ℕ) (d : Edge) → k < n + 1 → slice_get edges k ≡ Some d → (p : Option ℕ) × (slice_get (older ++ o ∷ []) k ≡ Some p) × IsLatest edges k d.tail p
@@ -73,9 +74,11 @@ module _ (points : ℕ) (edges : List Edge) (n : ℕ) (newest older : List (Opti
       let len = h.older_each in
       elim (cases_eq k n) [
         | inl same ↦
-            let is = some_same d e (sym there ∙ subst (λ x. slice_get edges x ≡ Some e) (sym same) at) in
-            (o, ap (slice_get (older ++ o ∷ [])) (same ∙ sym len) ∙ get_last older o None,
-              subst (λ (x : Edge). IsLatest edges k x.tail o) (sym is) (subst (λ x. IsLatest edges x e.tail o) (sym same) here))
+            let is = some_same d e (sym there ∙ subst (λ x. slice_get edges x ≡ Some e) (sym same) at) in (
+              o,
+              ap (slice_get (older ++ o ∷ [])) (same ∙ sym len) ∙ get_last older o None,
+              subst (λ (x : Edge). IsLatest edges k x.tail o) (sym is) (subst (λ x. IsLatest edges x e.tail o) (sym same) here),
+            )
         | inr ne ↦ let q = h.older_is k d (omega arith) there in (q.0, get_below older o None k (omega arith) ∙ q.1, q.2)
       ]
 

@@ -445,7 +445,9 @@ fn search_tree(
     ensures stop { IfOk result (λ stop. MatchOption stop ((v : ℕ) → v < length best.old → v ≢ from → IsLinked last.new v) (λ v. (v < length best.old) × (pos 0 <ℤ number_of wanted.now v) × (v ≢ from → IsLinked last.new v))) }
 {
     begin(best, waiting, numbers, from)?;
-    let stop = settle(best, waiting, edges, limits, leaving, numbers, wanted, enough)?;
+    let stop = settle(
+        best, waiting, edges, limits, leaving, numbers, wanted, enough,
+    )?;
     cut(best, stop.limit, numbers, last);
     Ok(stop.point)
 }

@@ -20,7 +20,7 @@ potentials-requires c =
     let network = c.requires in
     let units = ap length c.deref.ensures.value ∙ c.in_ok-flow.ensures.units in
     let small = small_from_tight net.arcs c.deref.result.now w.residual.edges.items w.residual.steps.items ready.residual units net.points ready.zero_at w.search.numbers.items network.few_points network.ends network.leasts
-        (ready.sized.number_each ∙ ready.points_each) ready.zero_in ready.is_zero ready.tight network.connected in
+    (ready.sized.number_each ∙ ready.points_each) ready.zero_in ready.is_zero ready.tight network.connected in
     subst (λ x. All (IsWithin (2 ^ 62)) x) (sym c.deref-2.ensures.value) (all_small w.search.numbers.items small)
 
 pub returns-clause-tight : goal.returns-clause-tight

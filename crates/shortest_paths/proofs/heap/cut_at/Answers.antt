@@ -21,6 +21,6 @@ returns-clause-here c =
       | inr away ↦ let cost = away.1 in (omega (arith, ints), omega (arith, ints))
     ] in
     subst (λ z. IsCutAt (found c.args.best.now i) (number_of c.args.numbers.now i +ℤ c.args.limit) (number_of (set c.args.numbers.now i z) i) (slice_index_or (set c.args.last.now i w.last) i None)) (sym (read_sum w.cost fits))
-    (    subst (λ x. IsCutAt (found c.args.best.now i) (number_of c.args.numbers.now i +ℤ c.args.limit) x (slice_index_or (set c.args.last.now i w.last) i None)) (sym (get_or-set_same c.args.numbers.now i w.cost (pos 0) (let l = c.requires.point in let n = c.requires.numbers in omega arith)))
+    (subst (λ x. IsCutAt (found c.args.best.now i) (number_of c.args.numbers.now i +ℤ c.args.limit) x (slice_index_or (set c.args.last.now i w.last) i None)) (sym (get_or-set_same c.args.numbers.now i w.cost (pos 0) (let l = c.requires.point in let n = c.requires.numbers in omega arith)))
     (subst (λ x. IsCutAt (found c.args.best.now i) (number_of c.args.numbers.now i +ℤ c.args.limit) w.cost x) (sym (get_or-set_same c.args.last.now i w.last None (let l = c.requires.point in let n = c.requires.last in omega arith)))
     (subst (λ z. IsCutAt (found c.args.best.now i) z w.cost w.last) read c.within-walk.ensures)))

@@ -25,10 +25,10 @@ returns-clause-least c v l =
     let points = c.in_ok-search.ensures.points in
     let ends = subst (λ x. (u k : ℕ) → slice_get s.last.items u ≡ Some (Some k) → EndsLeast x s.numbers.items u k) plain after.last in
     let tree = subst (λ p. (u k : ℕ) → slice_get s.last.items u ≡ Some (Some k) → (n : ℕ) × (n < p) × ClimbsIn edges s.last.items c.args.from n u) points
-        (subst (λ x. (u k : ℕ) → slice_get s.last.items u ≡ Some (Some k) → (n : ℕ) × (n < c.in_ok-search.search.points) × ClimbsIn x s.last.items c.args.from n u) plain after.tree) in
+    (subst (λ x. (u k : ℕ) → slice_get s.last.items u ≡ Some (Some k) → (n : ℕ) × (n < c.in_ok-search.search.points) × ClimbsIn x s.last.items c.args.from n u) plain after.tree) in
     let linked = never_stopped c.in_ok-search.search.points c.args.from s.last.items [] c.in_ok-run.field-0 refl after.stop in
     let least = whole_least edges c.args.points c.args.from s.numbers.items s.last.items c.requires.start (subst (λ x. Permits x s.numbers.items) plain after.permits) after.start ends tree
-        (λ u m ne. linked u (omega (arith, m, points)) ne) v l in
+    (λ u m ne. linked u (omega (arith, m, points)) ne) v l in
     subst (λ x. IsLeastCost edges c.args.from v (number_of x v)) (sym (c.in_ok-least.ensures ∙ c.deref.ensures.value)) least
 
 pub returns-clause-none : goal.returns-clause-none
@@ -54,6 +54,6 @@ returns-clause-tree c v l =
     let points = c.in_ok-search.ensures.points in
     let linked = never_stopped c.in_ok-search.search.points c.args.from s.last.items [] c.in_ok-run.field-0 refl after.stop in
     let tree = subst (λ p. (u k : ℕ) → slice_get s.last.items u ≡ Some (Some k) → (n : ℕ) × (n < p) × ClimbsIn edges s.last.items c.args.from n u) points
-        (subst (λ x. (u k : ℕ) → slice_get s.last.items u ≡ Some (Some k) → (n : ℕ) × (n < c.in_ok-search.search.points) × ClimbsIn x s.last.items c.args.from n u) (usable_unlimited edges) after.tree) in
+    (subst (λ x. (u k : ℕ) → slice_get s.last.items u ≡ Some (Some k) → (n : ℕ) × (n < c.in_ok-search.search.points) × ClimbsIn x s.last.items c.args.from n u) (usable_unlimited edges) after.tree) in
     let t = whole_tree_at edges c.args.points c.args.from s.last.items c.requires.start tree (λ u m ne. linked u (omega (arith, m, points)) ne) v l in
     subst (λ x. (n : ℕ) × (n < c.args.points) × ClimbsIn edges x c.args.from n v) (sym (c.in_ok-last.ensures ∙ c.deref-2.ensures.value)) t

@@ -18,5 +18,5 @@ returns-clause-joins c b f =
     let number_fits : FitsSigned w64 (number_of numbers c.args.point) = omega (arith, ints, number.0, number.1) in
     let ahead_fits : FitsSigned w64 (walk.cost -ℤ number_of numbers c.args.point) = omega (arith, ints, cost.0, cost.1, number.0, number.1) in
     let moved : IsPermutation {X = Waiter} (waiter numbers walk.cost c.args.point ∷ heap_items c.args.waiting.now) (heap_items c.push.new.self) =
-        simp (to_z-of_z w64 walk.cost cost_fits, to_z-of_z w64 (number_of numbers c.args.point) number_fits, to_z-of_z w64 (walk.cost -ℤ number_of numbers c.args.point) ahead_fits) at c.in_ok-push.ensures.permutation in
+    simp (to_z-of_z w64 walk.cost cost_fits, to_z-of_z w64 (number_of numbers c.args.point) number_fits, to_z-of_z w64 (walk.cost -ℤ number_of numbers c.args.point) ahead_fits) at c.in_ok-push.ensures.permutation in
     subst (λ (x : Best). IsPermutation {X = Waiter} (waiter numbers x.cost c.args.point ∷ heap_items c.args.waiting.now) (heap_items c.push.new.self)) (some_same walk b (sym c.in-Some.is ∙ f)) moved
