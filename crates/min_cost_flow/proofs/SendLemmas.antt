@@ -8,7 +8,8 @@ use Rattle.min_cost_flow.specs.declared.network.Arc.{Arc}
 use Rattle.min_cost_flow.specs.declared.network.Step.{Step}
 use Rattle.min_cost_flow.specs.declared.network.Network.{Network}
 use Rattle.min_cost_flow.specs.declared.residual.Residual.{Residual}
-use Rattle.shortest_paths.specs.declared.edges.Distances.{Distances}
+use Rattle.shortest_paths.specs.declared.heap.Searcher.{Searcher}
+use Rattle.shortest_paths.specs.Nearest.{IsLinked}
 use Rattle.min_cost_flow.specs.Search.{IsSearchOf, CanCarry}
 use Rattle.min_cost_flow.specs.Flow.{IsTight}
 use Rattle.min_cost_flow.specs.Residual.{net_of, units_at, forward, backward, IsMove, more, fewer, after_step, IsTreeTight}
@@ -26,6 +27,11 @@ climb_unique edges last from (suc n) (suc m) v root a b =
     let k : a.0 ≡ b.0 = let q = sym a.2 ∙ b.2 in cc in
     let e = some_same a.1 b.1 (sym a.3 ∙ subst (λ x. slice_get edges x ≡ Some b.1) (sym k) b.3) in
     ap suc (climb_unique edges last from n m a.1.tail root a.4 (subst (λ (x : Edge). ClimbsIn edges last from m x.tail) (sym e) b.4))
+
+-- a climb that can go no further is at the root
+pub climb_ends : (edges : List Edge) (last : List (Option ℕ)) (from n at : ℕ) → slice_get last at ≡ Some None → ClimbsIn edges last from n at → at ≡ from
+climb_ends edges last from zero at none c = c
+climb_ends edges last from (suc n) at none c = absurd (let q = sym none ∙ c.2 in cc)
 
 -- two climbs from one point: the longer one goes on where the shorter one ended
 pub climb_split : (edges : List Edge) (last : List (Option ℕ)) (u v i d m w : ℕ) → m ≡ i + d → ClimbsIn edges last u i w → ClimbsIn edges last v m w → ClimbsIn edges last v d u
@@ -213,25 +219,24 @@ pub named_there : (xs read : List (Option ℕ)) (at : ℕ) (x : Option ℕ) → 
 named_there xs read at x l same is = slice_get-get_or xs at None l ∙ ap Some (ap (λ ys. get_or ys at None) (sym same) ∙ is)
 
 -- what `last` names at a point: an edge that arrives there, with its step
-pub record Here (net : Network) (searched : List ℕ) (r : Residual) (d : Distances) (at k : ℕ) : Type 0 where
+pub record Here (net : Network) (searched : List ℕ) (r : Residual) (d : Searcher) (at k : ℕ) : Type 0 where
   pub edge : Edge
   pub step : Step
-  pub named : slice_get d.last at ≡ Some (Some k)
+  pub named : slice_get d.last.items at ≡ Some (Some k)
   pub there : slice_get r.edges.items k ≡ Some edge
   pub arrives : edge.head ≡ at
   pub step_there : slice_get r.steps.items k ≡ Some step
   pub move : IsMove net.arcs searched edge step
 
-module _ (net : Network) (searched : List ℕ) (from to : ℕ) (r : Residual) (d : Distances) (s : IsSearchOf net searched from r d) where
-  pub here : (at k : ℕ) (last : List (Option ℕ)) → at < net.points → last ≡ d.last → get_or last at None ≡ Some k → Here net searched r d at k
+module _ (net : Network) (searched : List ℕ) (from to : ℕ) (r : Residual) (d : Searcher) (s : IsSearchOf net searched from r d) where
+  pub here : (at k : ℕ) (last : List (Option ℕ)) → at < net.points → last ≡ d.last.items → get_or last at None ≡ Some k → Here net searched r d at k
   here at k last l same is =
-      let named = named_there d.last last at (Some k) (let many = s.last_each in omega arith) same is in
-      let e = s.ends at k l named in
-      let m = s.residual.moves k e.edge e.at in
-      record { edge = e.edge; step = m.0; named = named; there = e.at; arrives = e.arrives; step_there = m.1; move = m.2 }
+      let named = named_there d.last.items last at (Some k) (let many = s.last_each in omega arith) same is in
+      let e = s.ends at k named in
+      record { edge = e.edge; step = e.step; named = named; there = e.there; arrives = e.arrives; step_there = e.step_there; move = e.move }
 
-  pub first_sending : (old : List ℕ) (units : ℕ) → to < net.points → IsSending net.arcs old r.edges.items d.last from to units old to 0
-  first_sending old units l = let t = s.tree to l in IsSending-first net.arcs old r.edges.items d.last from to units t.0 (let q = s.last_each in let w = t.1 in omega arith) t.2
+  pub first_sending : (old : List ℕ) (units : ℕ) → IsLinked d.last.items to → IsSending net.arcs old r.edges.items d.last.items from to units old to 0
+  first_sending old units l = let t = s.tree to l.0 l.1 in IsSending-first net.arcs old r.edges.items d.last.items from to units t.0 (let q = s.last_each in let w = t.1 in omega arith) t.2
 
   pub arc_within : (at k : ℕ) (h : Here net searched r d at k) → h.step.arc < length net.arcs
   arc_within at k h = by h.edge h.step h.move
@@ -240,7 +245,7 @@ module _ (net : Network) (searched : List ℕ) (from to : ℕ) (r : Residual) (d
       by e t (more j a f) = slice_get_within net.arcs j a f
       by e t (fewer j a f some) = slice_get_within net.arcs j a f
 
-  module _ (old : List ℕ) (units : ℕ) (flow : List ℕ) (at i k : ℕ) (many : length old ≡ length net.arcs) (room : CanCarry old r d to units) (sending : IsSending net.arcs old r.edges.items d.last from to units flow at i) (h : Here net searched r d at k) where
+  module _ (old : List ℕ) (units : ℕ) (flow : List ℕ) (at i k : ℕ) (many : length old ≡ length net.arcs) (room : CanCarry old r d to units) (sending : IsSending net.arcs old r.edges.items d.last.items from to units flow at i) (h : Here net searched r d at k) where
     pub step_within : h.step.arc < length flow
     step_within = let l = arc_within at k h in let q = sending.len in omega (arith, l, q, many)
 
@@ -250,17 +255,17 @@ module _ (net : Network) (searched : List ℕ) (from to : ℕ) (r : Residual) (d
         by : (e : Edge) (t : Step) → IsMove net.arcs searched e t → h.edge ≡ e → t.back ≡ true → units ≤ slice_index old t.arc → units ≤ slice_index flow t.arc
         by e t (more j a f) is back enough = absurd (cc)
         by e t (fewer j a f some) is back enough =
-            let still = still_there' net.arcs old r.edges.items d.last from to units flow at i k h.edge many s.root sending h.named h.there h.arrives j a f is in omega arith
+            let still = still_there' net.arcs old r.edges.items d.last.items from to units flow at i k h.edge many s.root sending h.named h.there h.arrives j a f is in omega arith
 
-    pub step_sending : IsSending net.arcs old r.edges.items d.last from to units (set flow h.step.arc (after_step flow units h.step)) h.edge.tail (i + 1)
-    step_sending = subst (λ n. IsSending net.arcs old r.edges.items d.last from to units (set flow h.step.arc (after_step flow units h.step)) h.edge.tail n) (sym (add-one i)) (by h.edge h.step h.move refl step_has_units)
+    pub step_sending : IsSending net.arcs old r.edges.items d.last.items from to units (set flow h.step.arc (after_step flow units h.step)) h.edge.tail (i + 1)
+    step_sending = subst (λ n. IsSending net.arcs old r.edges.items d.last.items from to units (set flow h.step.arc (after_step flow units h.step)) h.edge.tail n) (sym (add-one i)) (by h.edge h.step h.move refl step_has_units)
       where
-        by : (e : Edge) (t : Step) → IsMove net.arcs searched e t → h.edge ≡ e → (t.back ≡ true → units ≤ slice_index flow t.arc) → IsSending net.arcs old r.edges.items d.last from to units (set flow t.arc (after_step flow units t)) h.edge.tail (suc i)
-        by e t (more j a f) is enough = IsSending-more net.arcs old r.edges.items d.last from to units flow at i k h.edge many s.root sending h.named h.there h.arrives j a f is
+        by : (e : Edge) (t : Step) → IsMove net.arcs searched e t → h.edge ≡ e → (t.back ≡ true → units ≤ slice_index flow t.arc) → IsSending net.arcs old r.edges.items d.last.items from to units (set flow t.arc (after_step flow units t)) h.edge.tail (suc i)
+        by e t (more j a f) is enough = IsSending-more net.arcs old r.edges.items d.last.items from to units flow at i k h.edge many s.root sending h.named h.there h.arrives j a f is
         by e t (fewer j a f some) is enough =
-            IsSending-fewer net.arcs old r.edges.items d.last from to units flow at i k h.edge many s.root sending h.named h.there h.arrives j a f is (enough refl)
+            IsSending-fewer net.arcs old r.edges.items d.last.items from to units flow at i k h.edge many s.root sending h.named h.there h.arrives j a f is (enough refl)
 
-pub tail_below : (net : Network) (old : List ℕ) (r : Residual) (d : Distances) (at k : ℕ) → All (λ (a : Arc). (a.tail < net.points) × (a.head < net.points)) net.arcs → (h : Here net old r d at k) → h.edge.tail < net.points
+pub tail_below : (net : Network) (old : List ℕ) (r : Residual) (d : Searcher) (at k : ℕ) → All (λ (a : Arc). (a.tail < net.points) × (a.head < net.points)) net.arcs → (h : Here net old r d at k) → h.edge.tail < net.points
 tail_below net old r d at k ends h = by h.edge h.step h.move
   where
     within : (j : ℕ) (a : Arc) → slice_get net.arcs j ≡ Some a → (a.tail < net.points) × (a.head < net.points)
@@ -271,10 +276,10 @@ tail_below net old r d at k ends h = by h.edge h.step h.move
     by e t (fewer j a f some) = (within j a f).1
 
 -- units that have come to the root were sent
-pub sent_at_root : (net : Network) (searched old : List ℕ) (from to units : ℕ) (r : Residual) (d : Distances) (flow : List ℕ) (at i : ℕ) (last : List (Option ℕ)) → IsSearchOf net searched from r d →
-    IsSending net.arcs old r.edges.items d.last from to units flow at i → at < net.points → last ≡ d.last → get_or last at None ≡ None →
+pub sent_at_root : (net : Network) (searched old : List ℕ) (from to units : ℕ) (r : Residual) (d : Searcher) (flow : List ℕ) (at i : ℕ) (last : List (Option ℕ)) → IsSearchOf net searched from r d →
+    IsSending net.arcs old r.edges.items d.last.items from to units flow at i → at < net.points → last ≡ d.last.items → get_or last at None ≡ None →
     (v : ℕ) → net_of net.arcs flow v +ℤ pos (units_at units from v) ≡ net_of net.arcs old v +ℤ pos (units_at units to v)
 sent_at_root net searched old from to units r d flow at i last s sending l same none v =
-    let named = named_there d.last last at None (let many = s.last_each in omega arith) same none in
-    let is = s.only_root at l named in
+    let named = named_there d.last.items last at None (let many = s.last_each in omega arith) same none in
+    let is = climb_ends r.edges.items d.last.items from sending.left.0 at named sending.left.2 in
     subst (λ y. net_of net.arcs flow v +ℤ pos (units_at units y v) ≡ net_of net.arcs old v +ℤ pos (units_at units to v)) is (sending.net v)

@@ -1,23 +1,26 @@
 -- The beginning, one turn and the end of the solver's loop.
-use Rattle.std.proofs.Common.{◌≡◌, ◌≢◌, ℕ, zero, suc, ◌+◌, ◌*◌, ◌<◌, ◌≤◌, ◌^◌, ℤ, pos, negsuc, ◌+ℤ◌, ◌-ℤ◌, neg_ℤ, ◌≤ℤ◌, ◌<ℤ◌, List, [], ◌∷◌, ◌++◌, length, set, map, replicate, Some, inl, inr, refl, sym, ap, subst, ◌∙◌, arith, slice_get, slice_index, cond, nat_eq, Bool, true, false, get_or-set_same, get_or-set_other, length-set, take, drop, min, unsigned_abs, to_z, w64}
+use Rattle.std.proofs.Common.{◌≡◌, ◌≢◌, ℕ, zero, suc, ◌+◌, ◌*◌, ◌<◌, ◌≤◌, ◌^◌, ℤ, pos, negsuc, ◌+ℤ◌, ◌-ℤ◌, neg_ℤ, ◌≤ℤ◌, ◌<ℤ◌, List, [], ◌∷◌, ◌++◌, length, set, map, replicate, Option, Some, None, inl, inr, refl, sym, ap, subst, ◌∙◌, arith, slice_get, slice_index, get_or, cond, nat_eq, Bool, true, false, get_or-set_same, get_or-set_other, length-set, take, drop, min, unsigned_abs, to_z, w64}
 use Rattle.std.proofs.Math.Nat.{min-le_left, min-le_right, le-min}
 use Rattle.std.proofs.Math.Seq.{take-append_seam}
 use Rattle.std.specs.List.{Contains, All}
+use Rattle.std.specs.Option.{MatchOption}
 use Rattle.std.proofs.lemmas.Int.{ints, to_z_pos}
 use Rattle.std.proofs.lemmas.Bool.{cases_eq}
 use Rattle.std.proofs.lemmas.Bool.Decides.{nat_tests}
-use Rattle.std.proofs.lemmas.List.{length-replicate}
+use Rattle.std.proofs.lemmas.List.{length-replicate, get_or_default}
 use Rattle.std.proofs.lemmas.List.Sums.{sum_by-set, sum_by-cons}
 use Rattle.std.proofs.lemmas.List.Elements.{All-head, All-tail}
-use Rattle.std.proofs.lemmas.Option.{slice_get-get_or}
+use Rattle.std.proofs.lemmas.Option.{slice_get-get_or, slice_get_within, get_or_from_slice_get}
 use Rattle.min_cost_flow.specs.declared.network.Arc.{Arc}
-use Rattle.min_cost_flow.specs.declared.network.Step.{Step}
 use Rattle.min_cost_flow.specs.declared.network.Network.{Network}
 use Rattle.min_cost_flow.specs.Flow.{IsNetwork, IsTight, MeetsNeeds, HasNoPositiveCycle, length_of, units_where, total_of}
-use Rattle.min_cost_flow.specs.Residual.{forward, IsMove, more, fewer, net_of, units_at, HasNoNegativeResidualCycle}
+use Rattle.min_cost_flow.specs.Residual.{forward, net_of, units_at}
+use Rattle.min_cost_flow.specs.Search.{potential_of}
 use Rattle.min_cost_flow.specs.Solve.{IsMeeting, wanted}
 use Rattle.shortest_paths.specs.declared.edges.Edge.{Edge}
-use Rattle.shortest_paths.specs.Walks.{IsWalk, IsWithin, number_of, cost_of, from_zero}
+use Rattle.shortest_paths.specs.Walks.{IsWalk, IsWithin, Joins, Reaches, HasNoNegativeCycle, IsLeastCost, number_of, cost_of, from_zero}
+use Rattle.shortest_paths.specs.Nearest.{Permits, IsLinked, AreSmall}
+use Rattle.shortest_paths.proofs.WalkLemmas.{some_same, edge_at}
 
 -- ---- the empty flow
 
@@ -35,39 +38,96 @@ index_of_zeros zero k = refl
 index_of_zeros (suc n) zero = refl
 index_of_zeros (suc n) (suc k) = index_of_zeros n k
 
--- a walk over residual edges, none of which goes back, is one over the arcs, with each cost turned
-turned : Edge → Edge
-turned e = record { tail = e.tail; head = e.head; cost = neg_ℤ e.cost }
+-- ---- the forward edges, by which the first potentials are found
 
-pub no_units_no_cycle : (arcs : List Arc) (flow : List ℕ) → ((k : ℕ) → slice_index flow k ≡ 0) → HasNoPositiveCycle arcs → HasNoNegativeResidualCycle arcs flow
-unfolding turned
-no_units_no_cycle arcs flow none cycles edges steps r v walk w = let t = turn walk v v w in let q = cycles v t.0 t.1 in let same = t.2 in omega (arith, ints)
+at_forward : (xs : List Arc) (e : Edge) (k : ℕ) → slice_get (map forward xs) k ≡ Some e → (a : Arc) × (slice_get xs k ≡ Some a) × (forward a ≡ e)
+at_forward [] e k h = absurd (cc)
+at_forward (a ∷ xs) e zero h = (a, refl, some_same (forward a) e h)
+at_forward (a ∷ xs) e (suc k) h = at_forward xs e k h
+
+forward_at : (xs : List Arc) (a : Arc) (k : ℕ) → slice_get xs k ≡ Some a → slice_get (map forward xs) k ≡ Some (forward a)
+forward_at [] a k h = absurd (cc)
+forward_at (b ∷ xs) a zero h = ap (λ x. Some (forward x)) (some_same b a h)
+forward_at (b ∷ xs) a (suc k) h = forward_at xs a k h
+
+at_length : (xs : List Arc) (e : Edge) (k : ℕ) → slice_get (map length_of xs) k ≡ Some e → (a : Arc) × (slice_get xs k ≡ Some a) × (length_of a ≡ e)
+at_length [] e k h = absurd (cc)
+at_length (a ∷ xs) e zero h = (a, refl, some_same (length_of a) e h)
+at_length (a ∷ xs) e (suc k) h = at_length xs e k h
+
+length_at : (xs : List Arc) (a : Arc) (k : ℕ) → slice_get xs k ≡ Some a → slice_get (map length_of xs) k ≡ Some (length_of a)
+length_at [] a k h = absurd (cc)
+length_at (b ∷ xs) a zero h = ap (λ x. Some (length_of x)) (some_same b a h)
+length_at (b ∷ xs) a (suc k) h = length_at xs a k h
+
+place_of : {X : Type 0} (xs : List X) (x : X) → Contains xs x → (k : ℕ) × (slice_get xs k ≡ Some x)
+place_of xs x h = (h.0, slice_get-get_or xs h.0 x h.1 ∙ ap Some h.2)
+
+-- a walk over them is one over the arcs, with each cost turned
+turn : (arcs : List Arc) (walk : List Edge) (u v : ℕ) → IsWalk (map forward arcs) u walk v → (t : List Edge) × IsWalk (map length_of arcs) u t v × (cost_of t ≡ neg_ℤ (cost_of walk))
+turn arcs [] u v h = ([], h, refl)
+turn arcs (e ∷ walk) u v h =
+    let rest = turn arcs walk e.head v h.2 in
+    let k = place_of (map forward arcs) e h.0 in
+    let a = at_forward arcs e k.0 k.1 in
+    let tail = ap (λ (x : Edge). x.tail) a.2 in
+    let head = ap (λ (x : Edge). x.head) a.2 in
+    let cost = ap (λ (x : Edge). x.cost) a.2 in
+    let sum = rest.2 in
+    (length_of a.0 ∷ rest.0, (edge_at (map length_of arcs) k.0 (length_of a.0) (length_at arcs a.0 k.0 a.1), tail ∙ h.1, subst (λ x. IsWalk (map length_of arcs) x rest.0 v) (sym head) rest.1), omega (arith, ints))
+
+pub forward_cycles : (arcs : List Arc) → HasNoPositiveCycle arcs → HasNoNegativeCycle (map forward arcs)
+forward_cycles arcs cycles v walk w = let t = turn arcs walk v v w in let q = cycles v t.0 t.1 in let same = t.2 in omega (arith, ints)
+
+pub forward_reached : (arcs : List Arc) (u v : ℕ) → Reaches (map length_of arcs) u v → Reaches (map forward arcs) u v
+forward_reached arcs u v r = back r.0 u r.1
   where
-    in_map : (xs : List Arc) (k : ℕ) (a : Arc) → slice_get xs k ≡ Some a → Contains (map length_of xs) (length_of a)
-    in_map [] k a h = absurd (cc)
-    in_map (b ∷ xs) zero a h = (0, omega arith, let same : b ≡ a = cc in ap length_of same)
-    in_map (b ∷ xs) (suc k) a h = let t = in_map xs k a h in let l = t.1 in (suc t.0, omega arith, t.2)
-
-    arc_of : (e : Edge) → Contains edges e → (a : Arc) × Contains (map length_of arcs) (length_of a) × (e ≡ forward a)
-    arc_of e has =
-        let at = slice_get-get_or edges has.0 e has.1 ∙ ap Some has.2 in
-        let m = r.moves has.0 e at in
-        by e m.0 m.2
-      where
-        by : (d : Edge) (s : Step) → IsMove arcs flow d s → (a : Arc) × Contains (map length_of arcs) (length_of a) × (d ≡ forward a)
-        by d s (more j a h) = (a, in_map arcs j a h, refl)
-        by d s (fewer j a h some) = absurd (let q = none j in omega arith)
-
-    turn : (walk : List Edge) (u v : ℕ) → IsWalk edges u walk v → (t : List Edge) × IsWalk (map length_of arcs) u t v × (cost_of t ≡ neg_ℤ (cost_of walk))
-    turn [] u v h = ([], h, refl)
-    turn (e ∷ walk) u v h =
-        let rest = turn walk e.head v h.2 in
-        let a = arc_of e h.0 in
+    back : (walk : List Edge) (u : ℕ) → IsWalk (map length_of arcs) u walk v → Reaches (map forward arcs) u v
+    back [] u h = ([], h)
+    back (e ∷ walk) u h =
+        let rest = back walk e.head h.2 in
+        let k = place_of (map length_of arcs) e h.0 in
+        let a = at_length arcs e k.0 k.1 in
         let tail = ap (λ (x : Edge). x.tail) a.2 in
         let head = ap (λ (x : Edge). x.head) a.2 in
-        let cost = ap (λ (x : Edge). x.cost) a.2 in
-        let sum = rest.2 in
-        (length_of a.0 ∷ rest.0, (a.1, sym tail ∙ h.1, subst (λ x. IsWalk (map length_of arcs) x rest.0 v) head rest.1), omega (arith, ints))
+        (forward a.0 ∷ rest.0, (edge_at (map forward arcs) k.0 (forward a.0) (forward_at arcs a.0 k.0 a.1), tail ∙ h.1, subst (λ x. IsWalk (map forward arcs) x rest.0 v) (sym head) rest.1))
+
+pub forward_length : (arcs : List Arc) → length (map forward arcs) ≡ length arcs
+forward_length [] = refl
+forward_length (a ∷ arcs) = ap suc (forward_length arcs)
+
+pub forward_joins : (points : ℕ) (arcs : List Arc) → All (λ (a : Arc). (a.tail < points) × (a.head < points)) arcs → All (Joins points) (map forward arcs)
+forward_joins points arcs ends k d l =
+    let at = slice_get-get_or (map forward arcs) k d l in
+    let a = at_forward arcs (get_or (map forward arcs) k d) k at in
+    let q = ends k a.0 (slice_get_within arcs k a.0 a.1) in
+    let q' = subst (λ (x : Arc). (x.tail < points) × (x.head < points)) (get_or_from_slice_get arcs k a.0 a.0 a.1) q in
+    subst (Joins points) a.2 (q'.0, q'.1)
+
+pub forward_costs : (arcs : List Arc) → All (λ (a : Arc). IsWithin (2 ^ 30) a.least) arcs → All (λ (e : Edge). IsWithin (2 ^ 46) e.cost) (map forward arcs)
+forward_costs arcs leasts k d l =
+    let at = slice_get-get_or (map forward arcs) k d l in
+    let a = at_forward arcs (get_or (map forward arcs) k d) k at in
+    let q = leasts k a.0 (slice_get_within arcs k a.0 a.1) in
+    let q' = subst (λ (x : Arc). IsWithin (2 ^ 30) x.least) (get_or_from_slice_get arcs k a.0 a.0 a.1) q in
+    let low = q'.0 in let high = q'.1 in
+    subst (λ (e : Edge). IsWithin (2 ^ 46) e.cost) a.2 (omega (arith, ints), omega (arith, ints))
+
+-- least costs over them are tight potentials for the flow of no units
+pub first_tight : (arcs : List Arc) (n : ℕ) (least : List ℤ) → Permits (map forward arcs) least → IsTight arcs (replicate n 0) (potential_of least)
+first_tight arcs n least permits = record {
+  rises = λ k a h. let q = permits (forward a) (edge_at (map forward arcs) k (forward a) (forward_at arcs a k h)) in omega (arith, ints);
+  no_more = λ k a h some. absurd (let none = index_of_zeros n k in omega arith);
+}
+
+-- the least cost of a walk from a point to itself is 0
+pub least_at_root : (edges : List Edge) (from : ℕ) (least : List ℤ) → HasNoNegativeCycle edges → IsLeastCost edges from from (number_of least from) → number_of least from ≡ pos 0
+least_at_root edges from least none c =
+    let w = c.walked in
+    let cycle = none from w.0 w.1 in
+    let same = w.2 in
+    let empty = c.none_less [] refl in
+    omega (arith, ints)
 
 wanted_within : (need : List ℤ) → All (IsWithin (2 ^ 14)) need → wanted need ≤ 2 ^ 14 * length need
 wanted_within [] h = omega arith
@@ -88,7 +148,6 @@ IsMeeting-first net flow n network len is = record {
   unmet_is = λ v l. subst (λ x. net_of net.arcs x v +ℤ number_of net.need v ≡ number_of net.need v) (sym is)
       (let ins = no_units (λ a. nat_eq a.head v) net.arcs n in let outs = no_units (λ a. nat_eq a.tail v) net.arcs n in omega (arith, ints));
   balanced = network.balanced;
-  cycles = no_units_no_cycle net.arcs flow none network.no_positive_cycle;
   room = λ k. let z = none k in let w = wanted_within net.need network.needs in let m = network.one_need_each in let few = network.few_points in omega arith;
 }
   where
@@ -216,9 +275,9 @@ module _ (net : Network) (flow : List ℕ) (unmet : List ℤ) (from to n : ℕ) 
 
   pub IsMeeting-next : (new : List ℕ) → length new ≡ length flow →
       ((v : ℕ) → net_of net.arcs new v +ℤ pos (units_at n from v) ≡ net_of net.arcs flow v +ℤ pos (units_at n to v)) →
-      HasNoNegativeResidualCycle net.arcs new → ((k : ℕ) → slice_index new k ≤ slice_index flow k + n) →
+      ((k : ℕ) → slice_index new k ≤ slice_index flow k + n) →
       IsMeeting net new (set (set unmet from (number_of unmet from +ℤ pos n)) to (number_of unmet to -ℤ pos n))
-  IsMeeting-next new len sent cycles bound = record {
+  IsMeeting-next new len sent bound = record {
     units_each = len ∙ m.units_each;
     unmet_each = length-set (set unmet from (number_of unmet from +ℤ pos n)) to _ ∙ length-set unmet from _ ∙ m.unmet_each;
     unmet_is = λ v l. let a = sent v in let b = moved unmet from to n x.from_in x.to_in x.apart v in let c = m.unmet_is v l in omega (arith, ints);
@@ -230,7 +289,6 @@ module _ (net : Network) (flow : List ℕ) (unmet : List ℤ) (from to n : ℕ) 
         let c = m.balanced in
         let d = at_to' in
         omega (arith, ints);
-    cycles = cycles;
     room = λ k. let a = bound k in let b = m.room k in let c = wanted_falls in omega arith;
   }
 
@@ -275,3 +333,26 @@ IsTight-same arcs flow p q same t = record {
   rises = λ k a h. let r = t.rises k a h in let x = same a.head in let y = same a.tail in omega (arith, ints);
   no_more = λ k a h some. let r = t.no_more k a h some in let x = same a.head in let y = same a.tail in omega (arith, ints);
 }
+
+-- the first point to which units are sent is one of deficit that was reached
+pub first_deficit : (points from to first : ℕ) (unmet : List ℤ) (last : List (Option ℕ)) (o : Option ℕ) →
+    MatchOption o ((v : ℕ) → v < points → v ≢ from → IsLinked last v) (λ v. (v < points) × (pos 0 <ℤ number_of unmet v) × (v ≢ from → IsLinked last v)) →
+    ((v : ℕ) → o ≡ Some v → first ≡ v) → (o ≡ None → first ≡ to) → to < points → pos 0 <ℤ number_of unmet to → number_of unmet from <ℤ pos 0 →
+    (first < points) × (pos 0 <ℤ number_of unmet first) × IsLinked last first
+first_deficit points from to first unmet last None h some none l above below =
+    let is = none refl in
+    let apart : to ≢ from = λ e. let q = ap (number_of unmet) e in omega (arith, ints) in
+    subst (λ x. (x < points) × (pos 0 <ℤ number_of unmet x) × IsLinked last x) (sym is) (l, above, h to l apart)
+first_deficit points from to first unmet last (Some v) h some none l above below =
+    let is = some v refl in
+    let more = h.1 in
+    let apart : v ≢ from = λ e. let q = ap (number_of unmet) e in omega (arith, ints) in
+    subst (λ x. (x < points) × (pos 0 <ℤ number_of unmet x) × IsLinked last x) (sym is) (h.0, h.1, h.2 apart)
+
+pub all_small : (numbers : List ℤ) → AreSmall numbers → All (IsWithin (2 ^ 62)) numbers
+all_small numbers small k d l =
+    let same : number_of numbers k ≡ get_or numbers k d = get_or_default numbers k (pos 0) d l in
+    let q = small k in
+    let low = q.0 in
+    let high = q.1 in
+    subst (IsWithin (2 ^ 62)) same (omega (arith, ints), omega (arith, ints))

@@ -1,8 +1,6 @@
 -- The residual network of a flow: the ways in which units more can be sent.
-use Rattle.std.specs.Prelude.{◌≡◌, ℕ, ◌+◌, ◌-◌, ◌<◌, ◌==◌, if◌then◌else◌, ℤ, pos, ◌+ℤ◌, ◌-ℤ◌, neg_ℤ, List, true, false, slice_get, slice_index, Option, Some}
-use Rattle.std.specs.List.{Contains}
+use Rattle.std.specs.Prelude.{◌≡◌, ℕ, ◌+◌, ◌-◌, ◌<◌, ◌==◌, if◌then◌else◌, ℤ, pos, ◌+ℤ◌, ◌-ℤ◌, neg_ℤ, List, length, true, false, slice_get, slice_index, Option, Some}
 use Rattle.shortest_paths.specs.declared.edges.Edge.{Edge}
-use Rattle.shortest_paths.specs.Walks.{HasNoNegativeCycle}
 use Rattle.min_cost_flow.specs.declared.network.Arc.{Arc}
 use Rattle.min_cost_flow.specs.declared.network.Step.{Step}
 use Rattle.min_cost_flow.specs.Flow.{units_in, units_out}
@@ -20,12 +18,12 @@ pub data IsMove (arcs : List Arc) (flow : List ℕ) : Edge → Step → Type 0 w
   more : (k : ℕ) (a : Arc) → slice_get arcs k ≡ Some a → IsMove arcs flow (forward a) (record { arc = k; back = false })
   fewer : (k : ℕ) (a : Arc) → slice_get arcs k ≡ Some a → 0 < slice_index flow k → IsMove arcs flow (backward a) (record { arc = k; back = true })
 
--- The edges, each with its step, are those of the residual network: a forward one for each arc, and a reverse one for
--- each arc that carries units.
-pub record IsResidual (arcs : List Arc) (flow : List ℕ) (edges : List Edge) (steps : List Step) : Type 0 where
-  pub moves : (i : ℕ) (e : Edge) → slice_get edges i ≡ Some e → (s : Step) × (slice_get steps i ≡ Some s) × IsMove arcs flow e s
-  pub forwards : (k : ℕ) (a : Arc) → slice_get arcs k ≡ Some a → Contains edges (forward a)
-  pub backwards : (k : ℕ) (a : Arc) → slice_get arcs k ≡ Some a → 0 < slice_index flow k → Contains edges (backward a)
+-- The edges, each with its step, are those of the residual network: a forward one for each arc, and then a reverse one for
+-- each, whose limit is the units that are on the arc.
+pub record IsResidual (arcs : List Arc) (edges : List Edge) (steps : List Step) : Type 0 where
+  pub edges_each : length edges ≡ length arcs + length arcs
+  pub forwards : (k : ℕ) (a : Arc) → slice_get arcs k ≡ Some a → (slice_get edges k ≡ Some (forward a)) × (slice_get steps k ≡ Some (record { arc = k; back = false }))
+  pub backwards : (k : ℕ) (a : Arc) → slice_get arcs k ≡ Some a → (slice_get edges (length arcs + k) ≡ Some (backward a)) × (slice_get steps (length arcs + k) ≡ Some (record { arc = k; back = true }))
 
 -- The units in minus the units out.
 abbrev pub net_of : List Arc → List ℕ → ℕ → ℤ
@@ -42,7 +40,3 @@ after_step flow units s = if s.back then slice_index flow s.arc - units else sli
 -- Along each edge that `last` names, the potential falls by just the cost: the reduced cost of a tree edge is 0.
 abbrev pub IsTreeTight : List Edge → List (Option ℕ) → (ℕ → ℤ) → Type 0
 IsTreeTight edges last potential = (v k : ℕ) (e : Edge) → slice_get last v ≡ Some (Some k) → slice_get edges k ≡ Some e → (potential e.head +ℤ e.cost) ≡ potential e.tail
-
--- No cycle in the residual network of the flow costs less than 0. This is the optimality condition of a flow.
-abbrev pub HasNoNegativeResidualCycle : List Arc → List ℕ → Type 0
-HasNoNegativeResidualCycle arcs flow = (edges : List Edge) (steps : List Step) → IsResidual arcs flow edges steps → HasNoNegativeCycle edges

@@ -2,6 +2,7 @@
 
 ghost use Rattle.std.specs.Prelude.{◌≡◌, ℕ, ◌<◌, ◌≤◌, ℤ, pos, neg_ℤ, ◌+ℤ◌, ◌-ℤ◌, ◌≤ℤ◌, ◌<ℤ◌, List as Sequence, length, min, unsigned_abs, slice_set, ◌↔◌, IsTrue};
 ghost use Rattle.shortest_paths.specs.Walks.{number_of};
+ghost use Rattle.shortest_paths.specs.Nearest.{IsLinked};
 ghost use Rattle.min_cost_flow.specs.Flow.{IsNetwork, IsTight};
 ghost use Rattle.min_cost_flow.specs.Search.{IsSearchOf, potential_of};
 ghost use Rattle.min_cost_flow.specs.Solve.{IsMeeting, wanted};
@@ -18,6 +19,15 @@ fn is_unmet_at_both(unmet: &[i64], from: usize, to: usize) -> bool
     ensures { IsTrue result ↔ (number_of unmet.now from <ℤ pos 0) × (pos 0 <ℤ number_of unmet.now to) }
 {
     unmet[from] < 0 && unmet[to] > 0
+}
+
+// Does a cheapest walk lead to the point, and is it not the start?
+fn is_reached(last: &[Option<u32>], to: usize) -> bool
+    requires to { to < length last.now }
+
+    ensures { IsTrue result ↔ IsLinked last.now to }
+{
+    last[to].is_some()
 }
 
 // The least of the unmet needs of two points, as numbers of units.
@@ -48,24 +58,44 @@ fn count_sent(unmet: &mut [i64], from: usize, to: usize, units: i64)
 
 // Sends units along the cheapest walk to `to`, from a point of excess to a point of deficit: as many as the unmet needs of
 // both and the walk allow. Where the walks are those of this very flow, some go.
-fn augment(net: &Network, flow: &mut [u64], unmet: &mut [i64], walks: &Walks, to: u32)
+fn augment_reached(net: &Network, flow: &mut [u64], unmet: &mut [i64], walks: &Walks, to: u32)
     requires network { IsNetwork net.now }
     requires meeting { IsMeeting net.now flow.old unmet.old }
-    requires walks { (searched : Sequence ℕ) × IsSearchOf net.now searched walks.now.from walks.now.residual walks.now.least }
-    requires tight { IsTight net.now.arcs flow.old (potential_of walks.now.least.least) }
+    requires walks { (searched : Sequence ℕ) × IsSearchOf net.now searched walks.now.from walks.now.residual walks.now.search }
+    requires tight { IsTight net.now.arcs flow.old (potential_of walks.now.search.numbers.items) }
     requires from { walks.now.from < net.now.points }
     requires to { to < net.now.points }
+    requires linked { IsLinked walks.now.search.last.items to }
 
     ensures meeting { IsMeeting net.now flow.new unmet.new }
-    ensures tight { IsTight net.now.arcs flow.new (potential_of walks.now.least.least) }
+    ensures tight { IsTight net.now.arcs flow.new (potential_of walks.now.search.numbers.items) }
     ensures no_more { wanted unmet.new ≤ wanted unmet.old }
-    ensures fewer { IsSearchOf net.now flow.old walks.now.from walks.now.residual walks.now.least → number_of unmet.old walks.now.from <ℤ pos 0 → pos 0 <ℤ number_of unmet.old to → wanted unmet.new < wanted unmet.old }
+    ensures fewer { IsSearchOf net.now flow.old walks.now.from walks.now.residual walks.now.search → number_of unmet.old walks.now.from <ℤ pos 0 → pos 0 <ℤ number_of unmet.old to → wanted unmet.new < wanted unmet.old }
 {
     let from = walks.from as usize;
     if is_unmet_at_both(unmet, from, to as usize) {
         let most = unmet_at_both(unmet, from, to as usize);
         let units = send(net, flow, walks, to, most);
         count_sent(unmet, from, to as usize, units as i64);
+    }
+}
+
+// So it is done where a cheapest walk leads to `to`; else nothing changes.
+fn augment(net: &Network, flow: &mut [u64], unmet: &mut [i64], walks: &Walks, to: u32)
+    requires network { IsNetwork net.now }
+    requires meeting { IsMeeting net.now flow.old unmet.old }
+    requires walks { (searched : Sequence ℕ) × IsSearchOf net.now searched walks.now.from walks.now.residual walks.now.search }
+    requires tight { IsTight net.now.arcs flow.old (potential_of walks.now.search.numbers.items) }
+    requires from { walks.now.from < net.now.points }
+    requires to { to < net.now.points }
+
+    ensures meeting { IsMeeting net.now flow.new unmet.new }
+    ensures tight { IsTight net.now.arcs flow.new (potential_of walks.now.search.numbers.items) }
+    ensures no_more { wanted unmet.new ≤ wanted unmet.old }
+    ensures fewer { IsSearchOf net.now flow.old walks.now.from walks.now.residual walks.now.search → number_of unmet.old walks.now.from <ℤ pos 0 → pos 0 <ℤ number_of unmet.old to → IsLinked walks.now.search.last.items to → wanted unmet.new < wanted unmet.old }
+{
+    if is_reached(&walks.search.last, to as usize) {
+        augment_reached(net, flow, unmet, walks, to);
     }
 }
 
@@ -80,13 +110,15 @@ pub(crate) fn augment_all(
 )
     requires network { IsNetwork net.now }
     requires meeting { IsMeeting net.now flow.old unmet.old }
-    requires search { IsSearchOf net.now flow.old walks.now.from walks.now.residual walks.now.least }
+    requires search { IsSearchOf net.now flow.old walks.now.from walks.now.residual walks.now.search }
     requires from { walks.now.from < net.now.points }
     requires first { first < net.now.points }
     requires excess { number_of unmet.old walks.now.from <ℤ pos 0 }
     requires deficit { pos 0 <ℤ number_of unmet.old first }
+    requires linked { IsLinked walks.now.search.last.items first }
 
     ensures meeting { IsMeeting net.now flow.new unmet.new }
+    ensures tight { IsTight net.now.arcs flow.new (potential_of walks.now.search.numbers.items) }
     ensures fewer { wanted unmet.new < wanted unmet.old }
 {
     augment(net, flow, unmet, walks, first);

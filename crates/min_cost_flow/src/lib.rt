@@ -1,10 +1,11 @@
 //! Minimum-cost flow in a network whose arcs have no capacity, and the least potentials that certify it.
 //!
 //! [`solve`] sends units along cheapest walks of the residual network, as the successive shortest path algorithm does
-//! (Ahuja, Magnanti and Orlin, Network Flows, section 9.7), until the need of each point is met. Each augmentation sends
-//! as many units as the unmet needs of both ends and the reverse arcs of the walk allow, and one search serves all points
-//! of deficit that its tree of cheapest walks can.
-//! A last search from point 0, the root, gives the potentials.
+//! (Ahuja, Magnanti and Orlin, Network Flows, section 9.7), until the need of each point is met. The cheapest walks are
+//! sought over reduced costs, which are not negative: the first potentials are least costs over the arcs, and each search
+//! leaves the next ones. A search stops as soon as the points that it reached lack what its start has, and serves all of
+//! them that its tree of cheapest walks can; each augmentation sends as many units as the unmet needs of both ends and the
+//! reverse arcs of the walk allow. A last search from point 0, the root, reaches all points and gives the potentials.
 //!
 //! It promises that the flow meets the needs, that flow and potentials satisfy complementary slackness (each arc keeps
 //! its least difference of potentials, with equality where it carries units), and that the potentials are the least

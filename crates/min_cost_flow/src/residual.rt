@@ -1,6 +1,6 @@
 //! The residual network of a flow.
 
-ghost use Rattle.std.specs.Prelude.{◌≡◌, ◌≤◌, ◌*◌, ◌^◌, [], ◌∷◌, ◌++◌, length, IfOk, OnOk};
+ghost use Rattle.std.specs.Prelude.{◌≡◌, ◌≤◌, ◌*◌, ◌^◌, [], ◌∷◌, ◌++◌, length, map, IfOk, OnOk};
 ghost use Rattle.std.specs.List.{All};
 ghost use Rattle.shortest_paths.specs.Walks.{IsWithin};
 ghost use Rattle.min_cost_flow.specs.Residual.{IsResidual, forward, backward};
@@ -9,7 +9,7 @@ use crate::network::{Arc, Step};
 use shortest_paths::Edge;
 use std::alloc::{AllocError, Global};
 
-// The edges of the residual network of a flow, each with what it stands for.
+// The edges of the residual network, each with what it stands for.
 #[derive(Debug, Drop)]
 pub(crate) struct Residual {
     pub(crate) edges: Vec<Edge>,
@@ -52,15 +52,26 @@ fn one_fewer(arc: Arc) -> Edge
     }
 }
 
-// The residual network: an edge for one unit more on each arc, and, where the arc carries units, one for a unit fewer.
-pub(crate) fn residual_of(alloc: Global, arcs: &[Arc], flow: &[u64]) -> Result<Residual, AllocError>
-    requires few { length arcs.now ≤ 2 ^ 16 }
-    requires units { length flow.now ≡ length arcs.now }
+// The edges that stand for one unit more, in the order of the arcs.
+pub(crate) fn forward_edges(alloc: Global, arcs: &[Arc]) -> Result<Vec<Edge>, AllocError>
     requires leasts { All (λ a. IsWithin (2 ^ 30) a.least) arcs.now }
 
-    ensures few { IfOk result (λ r. length r.edges.items ≤ 2 * length arcs.now) }
-    ensures steps_each { IfOk result (λ r. length r.steps.items ≡ length r.edges.items) }
-    ensures residual { IfOk result (λ r. IsResidual arcs.now flow.now r.edges.items r.steps.items) }
+    ensures { IfOk result (λ edges. edges.items ≡ map forward arcs.now) }
+{
+    let mut edges = Vec::with_capacity(alloc, arcs.len())?;
+    for arc in arcs {
+        edges.push(one_more(*arc))?;
+    }
+    Ok(edges)
+}
+
+// The residual network: an edge for one unit more on each arc, and then one for a unit fewer on each, whose limit is the
+// units that are on the arc.
+pub(crate) fn residual_of(alloc: Global, arcs: &[Arc]) -> Result<Residual, AllocError>
+    requires few { length arcs.now ≤ 2 ^ 16 }
+    requires leasts { All (λ a. IsWithin (2 ^ 30) a.least) arcs.now }
+
+    ensures { IfOk result (λ r. IsResidual arcs.now r.edges.items r.steps.items) }
 {
     let most = 2 * arcs.len();
     let mut residual = Residual {
@@ -68,23 +79,18 @@ pub(crate) fn residual_of(alloc: Global, arcs: &[Arc], flow: &[u64]) -> Result<R
         steps: Vec::with_capacity(alloc, most)?,
     };
     for (k, arc) in arcs.iter().enumerate() {
-        residual.add(
-            one_more(*arc),
-            Step {
-                arc: k as u32,
-                back: false,
-            },
-        )?;
-        let units = flow[k];
-        if units > 0 {
-            residual.add(
-                one_fewer(*arc),
-                Step {
-                    arc: k as u32,
-                    back: true,
-                },
-            )?;
-        }
+        let step = Step {
+            arc: k as u32,
+            back: false,
+        };
+        residual.add(one_more(*arc), step)?;
+    }
+    for (j, arc) in arcs.iter().enumerate() {
+        let step = Step {
+            arc: j as u32,
+            back: true,
+        };
+        residual.add(one_fewer(*arc), step)?;
     }
     Ok(residual)
 }

@@ -1,6 +1,7 @@
 //! Units along a cheapest walk.
 
 ghost use Rattle.std.specs.Prelude.{◌≡◌, ℕ, ◌<◌, ◌≤◌, ◌+◌, ◌^◌, pos, ◌+ℤ◌, List as Sequence, length, min, if◌then◌else◌, true, false, slice_index, slice_set};
+ghost use Rattle.shortest_paths.specs.Nearest.{IsLinked};
 ghost use Rattle.min_cost_flow.specs.Flow.{IsNetwork, IsTight};
 ghost use Rattle.min_cost_flow.specs.Residual.{net_of, units_at, after_step};
 ghost use Rattle.min_cost_flow.specs.Search.{IsSearchOf, CanCarry, potential_of};
@@ -40,20 +41,21 @@ fn carried(flow: &[u64], step: Step, most: u64) -> u64
 // How many units of `most` the walk to `to` can carry, by the tree of cheapest walks: the least of `most` and the units
 // on the reverse arcs of the walk. The walks may be those of a flow before this one.
 fn carried_to(net: &Network, flow: &[u64], walks: &Walks, to: u32, most: u64) -> u64
-    requires walks { (searched : Sequence ℕ) × IsSearchOf net.now searched walks.now.from walks.now.residual walks.now.least }
+    requires walks { (searched : Sequence ℕ) × IsSearchOf net.now searched walks.now.from walks.now.residual walks.now.search }
     requires units { length flow.now ≡ length net.now.arcs }
     requires network { IsNetwork net.now }
     requires to { to < net.now.points }
+    requires linked { IsLinked walks.now.search.last.items to }
     requires some { 0 < most }
 
-    ensures some { IsSearchOf net.now flow.now walks.now.from walks.now.residual walks.now.least → 0 < result }
+    ensures some { IsSearchOf net.now flow.now walks.now.from walks.now.residual walks.now.search → 0 < result }
     ensures most { result ≤ most }
-    ensures room { CanCarry flow.now walks.now.residual walks.now.least to result }
+    ensures room { CanCarry flow.now walks.now.residual walks.now.search to result }
 {
     let mut units = most;
     let mut at = to;
     for _ in 0..net.points {
-        let Some(k) = walks.least.last.as_slice()[at as usize] else {
+        let Some(k) = walks.search.last.as_slice()[at as usize] else {
             break;
         };
         units = carried(flow, walks.residual.steps[k as usize], units);
@@ -69,21 +71,22 @@ pub(crate) fn send(net: &Network, flow: &mut [u64], walks: &Walks, to: u32, most
     requires network { IsNetwork net.now }
     requires units { length flow.old ≡ length net.now.arcs }
     requires room { (k : ℕ) → slice_index flow.old k + most < 2 ^ 63 }
-    requires walks { (searched : Sequence ℕ) × IsSearchOf net.now searched walks.now.from walks.now.residual walks.now.least }
-    requires tight { IsTight net.now.arcs flow.old (potential_of walks.now.least.least) }
+    requires walks { (searched : Sequence ℕ) × IsSearchOf net.now searched walks.now.from walks.now.residual walks.now.search }
+    requires tight { IsTight net.now.arcs flow.old (potential_of walks.now.search.numbers.items) }
     requires to { to < net.now.points }
+    requires linked { IsLinked walks.now.search.last.items to }
     requires some { 0 < most }
 
-    ensures some { IsSearchOf net.now flow.old walks.now.from walks.now.residual walks.now.least → 0 < result }
+    ensures some { IsSearchOf net.now flow.old walks.now.from walks.now.residual walks.now.search → 0 < result }
     ensures most { result ≤ most }
     ensures sent { (v : ℕ) → net_of net.now.arcs flow.new v +ℤ pos (units_at result walks.now.from v) ≡ net_of net.now.arcs flow.old v +ℤ pos (units_at result to v) }
-    ensures tight { IsTight net.now.arcs flow.new (potential_of walks.now.least.least) }
+    ensures tight { IsTight net.now.arcs flow.new (potential_of walks.now.search.numbers.items) }
     ensures bound { (k : ℕ) → slice_index flow.new k ≤ slice_index flow.old k + result }
 {
     let units = carried_to(net, flow, walks, to, most);
     let mut at = to;
     for _ in 0..net.points {
-        let Some(k) = walks.least.last.as_slice()[at as usize] else {
+        let Some(k) = walks.search.last.as_slice()[at as usize] else {
             break;
         };
         push(flow, walks.residual.steps[k as usize], units);

@@ -1,6 +1,6 @@
 -- Bounds during a search, and what holds at its end.
 use Rattle.std.proofs.Common.{◌≡◌, ◌≢◌, ℕ, zero, suc, ◌<◌, ◌≤◌, ◌^◌, ◌*◌, ◌+ℤ◌, List, [], ◌∷◌, length, Option, Some, refl, sym, ap, subst, arith}
-use Rattle.std.specs.List.{All}
+use Rattle.std.specs.List.{All, Contains}
 use Rattle.std.proofs.lemmas.Int.{ints}
 use Rattle.std.proofs.lemmas.List.Elements.{All-contains}
 use Rattle.shortest_paths.proofs.Pigeonhole.{pigeonhole}
@@ -12,18 +12,23 @@ use Rattle.shortest_paths.proofs.StepLemmas.{AtMost-weaker}
 
 -- ---- a walk that meets no point twice has fewer edges than there are points
 
+-- a walk from x to v, written from its last edge back to its first, meets no point twice
+abbrev pub IsSimple : List Edge → ℕ → List Edge → ℕ → Type 0
+IsSimple edges x [] v = v ≡ x
+IsSimple edges x (e ∷ back) v = Contains edges e × (e.head ≡ v) × Misses v back e.tail × IsSimple edges x back e.tail
+
 -- the point of a walk, written from its last edge back, at each place
 stop_at : List Edge → ℕ → ℕ → ℕ
 stop_at [] u i = u
 stop_at (e ∷ back) u zero = u
 stop_at (e ∷ back) u (suc i) = stop_at back e.tail i
 
-stop_below : (edges : List Edge) (points from : ℕ) (best : List (Option Best)) (back : List Edge) (u i : ℕ) → All (Joins points) edges → u < points → Traced edges from best back u → stop_at back u i < points
+stop_below : (edges : List Edge) (points from : ℕ) (back : List Edge) (u i : ℕ) → All (Joins points) edges → u < points → IsSimple edges from back u → stop_at back u i < points
 unfolding stop_at
-stop_below edges points from best [] u i joins l h = l
-stop_below edges points from best (e ∷ back) u zero joins l h = l
-stop_below edges points from best (e ∷ back) u (suc i) joins l h =
-    stop_below edges points from best back e.tail i joins ((All-contains (Joins points) edges e joins h.0).0) h.4
+stop_below edges points from [] u i joins l h = l
+stop_below edges points from (e ∷ back) u zero joins l h = l
+stop_below edges points from (e ∷ back) u (suc i) joins l h =
+    stop_below edges points from back e.tail i joins ((All-contains (Joins points) edges e joins h.0).0) h.3
 
 missed_stop : (x : ℕ) (back : List Edge) (u i : ℕ) → Misses x back u → x ≢ stop_at back u i
 unfolding stop_at
@@ -31,17 +36,21 @@ missed_stop x [] u i m = m
 missed_stop x (e ∷ back) u zero m = m.0
 missed_stop x (e ∷ back) u (suc i) m = missed_stop x back e.tail i m.1
 
-stops_apart : (edges : List Edge) (from : ℕ) (best : List (Option Best)) (back : List Edge) (u i j : ℕ) → Traced edges from best back u → i < suc (length back) → j < suc (length back) → stop_at back u i ≡ stop_at back u j → i ≡ j
+stops_apart : (edges : List Edge) (from : ℕ) (back : List Edge) (u i j : ℕ) → IsSimple edges from back u → i < suc (length back) → j < suc (length back) → stop_at back u i ≡ stop_at back u j → i ≡ j
 unfolding stop_at
-stops_apart edges from best [] u i j h p q e = omega arith
-stops_apart edges from best (d ∷ back) u zero zero h p q e = refl
-stops_apart edges from best (d ∷ back) u zero (suc j) h p q e = absurd (missed_stop u back d.tail j h.2 e)
-stops_apart edges from best (d ∷ back) u (suc i) zero h p q e = absurd (missed_stop u back d.tail i h.2 (sym e))
-stops_apart edges from best (d ∷ back) u (suc i) (suc j) h p q e = ap suc (stops_apart edges from best back d.tail i j h.4 (omega arith) (omega arith) e)
+stops_apart edges from [] u i j h p q e = omega arith
+stops_apart edges from (d ∷ back) u zero zero h p q e = refl
+stops_apart edges from (d ∷ back) u zero (suc j) h p q e = absurd (missed_stop u back d.tail j h.2 e)
+stops_apart edges from (d ∷ back) u (suc i) zero h p q e = absurd (missed_stop u back d.tail i h.2 (sym e))
+stops_apart edges from (d ∷ back) u (suc i) (suc j) h p q e = ap suc (stops_apart edges from back d.tail i j h.3 (omega arith) (omega arith) e)
 
-pub Traced-short : (edges : List Edge) (points from : ℕ) (best : List (Option Best)) (back : List Edge) (u : ℕ) → All (Joins points) edges → u < points → Traced edges from best back u → length back < points
-Traced-short edges points from best back u joins l h =
-    pigeonhole (suc (length back)) points (λ i. stop_at back u i) (λ i p. stop_below edges points from best back u i joins l h) (λ i j p q e. stops_apart edges from best back u i j h p q e)
+pub simple_short : (edges : List Edge) (points from : ℕ) (back : List Edge) (u : ℕ) → All (Joins points) edges → u < points → IsSimple edges from back u → length back < points
+simple_short edges points from back u joins l h =
+    pigeonhole (suc (length back)) points (λ i. stop_at back u i) (λ i p. stop_below edges points from back u i joins l h) (λ i j p q e. stops_apart edges from back u i j h p q e)
+
+simple_from_traced : (edges : List Edge) (from : ℕ) (best : List (Option Best)) (back : List Edge) (u : ℕ) → Traced edges from best back u → IsSimple edges from back u
+simple_from_traced edges from best [] u h = h
+simple_from_traced edges from best (e ∷ back) u h = (h.0, h.1, h.2, simple_from_traced edges from best back e.tail h.4)
 
 -- ---- so its cost is bounded
 
@@ -59,7 +68,7 @@ cost_within edges from best (e ∷ back) u costs h =
 pub found_within : (edges : List Edge) (points from : ℕ) (best : List (Option Best)) (v : ℕ) (b : Best) → points ≤ 2 ^ 14 → All (Joins points) edges → All (λ e. IsWithin (2 ^ 46) e.cost) edges → IsSearched edges from best → v < points → found best v ≡ Some b → IsWithin (2 ^ 60) b.cost
 found_within edges points from best v b few joins costs s l f =
     let w = s.walks v b f in
-    let short = Traced-short edges points from best w.0 v joins l w.1 in
+    let short = simple_short edges points from w.0 v joins l (simple_from_traced edges from best w.0 v w.1) in
     let bound = cost_within edges from best w.0 v costs w.1 in
     let low = bound.0 in
     let high = bound.1 in

@@ -123,3 +123,14 @@ free_cycle_is_reached (suc (suc (suc k))) l = absurd (omega arith)
 a_negative_cycle : HasNoNegativeCycle (edge 0 1 (pos 1) ∷ edge 1 0 (negsuc 1) ∷ []) → ⊥
 a_negative_cycle h =
     let le = h 0 (edge 0 1 (pos 1) ∷ edge 1 0 (negsuc 1) ∷ []) ((0, omega arith, refl), refl, ((1, omega arith, refl), refl, refl)) in omega (arith, ints)
+
+-- ---- the edge from 0 to 2 costs 9, and the way through 1 costs 2 + 3
+
+abbrev pub two_walks : List Edge
+two_walks = edge 0 1 (pos 2) ∷ edge 1 2 (pos 3) ∷ edge 0 2 (pos 9) ∷ []
+
+pub two_walks_are_reached : (v : ℕ) → v < 3 → Reaches two_walks 0 v
+two_walks_are_reached zero l = ([], refl)
+two_walks_are_reached (suc zero) l = (edge 0 1 (pos 2) ∷ [], ((0, omega arith, refl), refl, refl))
+two_walks_are_reached (suc (suc zero)) l = (edge 0 2 (pos 9) ∷ [], ((2, omega arith, refl), refl, refl))
+two_walks_are_reached (suc (suc (suc k))) l = absurd (omega arith)

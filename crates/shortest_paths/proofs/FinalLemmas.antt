@@ -88,7 +88,7 @@ module _ (edges : List Edge) (points from : ℕ) (best : List (Option Best)) (le
         | inr ne ↦ let f = found_at v p in let l = s.lasts v f.0 ne f.1 in absurd (let q = sym h ∙ read.lasts v f.0 f.1 ∙ ap Some l.is_last in cc)
       ]
 
-  last_is_older : (v : ℕ) → v < points → v ≢ from → Older points edges last s.stamp v
+  last_is_older : (v : ℕ) → v < points → v ≢ from → Older (λ x. x < points) edges last s.stamp v
   last_is_older v p ne =
       let f = found_at v p in
       let l = s.lasts v f.0 ne f.1 in
@@ -103,7 +103,7 @@ module _ (edges : List Edge) (points from : ℕ) (best : List (Option Best)) (le
       }
 
   pub climbs_to_start : (v : ℕ) → v < points → (n : ℕ) × (n < points) × ClimbsIn edges last from n v
-  climbs_to_start v p = tree_from_older points edges last s.stamp from last_is_older v p
+  climbs_to_start v p = tree_from_older points (λ x. x < points) edges last s.stamp from (λ x l. l) last_is_older v p
 
 -- ---- a search ends
 

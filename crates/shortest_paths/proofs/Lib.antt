@@ -7,3 +7,12 @@ pub mod FinalLemmas
 pub mod RoundLemmas
 pub mod ReadLemmas
 pub mod Examples
+pub mod LeavingLemmas
+pub mod UsableLemmas
+pub mod WaitLemmas
+pub mod CutLemmas
+pub mod FillLemmas
+pub mod TurnLemmas
+pub mod ShortLemmas
+pub mod StopLemmas
+pub mod WholeLemmas

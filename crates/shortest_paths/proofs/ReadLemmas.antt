@@ -18,12 +18,12 @@ found_below [] v b f = absurd (cc)
 found_below (x ∷ best) zero b f = omega arith
 found_below (x ∷ best) (suc v) b f = let ih = found_below best v b f in omega arith
 
-get_below : {X : Type 0} (xs : List X) (x d : X) (v : ℕ) → v < length xs → slice_get (xs ++ x ∷ []) v ≡ slice_get xs v
+pub get_below : {X : Type 0} (xs : List X) (x d : X) (v : ℕ) → v < length xs → slice_get (xs ++ x ∷ []) v ≡ slice_get xs v
 get_below xs x d v l =
     let longer : v < length (xs ++ x ∷ []) = rw (length-append xs (x ∷ [])) (omega arith) in
     slice_get-get_or (xs ++ x ∷ []) v d longer ∙ ap Some (get_or_append_left xs (x ∷ []) d v l) ∙ sym (slice_get-get_or xs v d l)
 
-get_last : {X : Type 0} (xs : List X) (x d : X) → slice_get (xs ++ x ∷ []) (length xs) ≡ Some x
+pub get_last : {X : Type 0} (xs : List X) (x d : X) → slice_get (xs ++ x ∷ []) (length xs) ≡ Some x
 get_last xs x d =
     let longer : length xs < length (xs ++ x ∷ []) = rw (length-append xs (x ∷ [])) (omega arith) in
     slice_get-get_or (xs ++ x ∷ []) (length xs) d longer ∙ ap Some (get_or-append_seam xs x [] d)

@@ -71,7 +71,7 @@ fn search(
 }
 
 // No walk is found to any of the points.
-fn none_found(alloc: Global, points: u32) -> Result<Vec<Option<Best>>, AllocError>
+pub(crate) fn none_found(alloc: Global, points: u32) -> Result<Vec<Option<Best>>, AllocError>
     ensures len { IfOk result (λ best. vec_len best ≡ points) }
     ensures items { IfOk result (λ best. best.items ≡ replicate points None) }
 {
@@ -105,7 +105,7 @@ fn relax_all(best: &mut [Option<Best>], edges: &[Edge]) -> bool
 }
 
 // Takes the walk by `edge`, the edge at `index`, where it is cheaper than the best one to its head, and says so.
-fn relax(best: &mut [Option<Best>], index: u32, edge: Edge) -> bool
+pub(crate) fn relax(best: &mut [Option<Best>], index: u32, edge: Edge) -> bool
     requires tail { edge.tail < length best.old }
     requires head { edge.head < length best.old }
     requires cost { IsWithin (2 ^ 46) edge.cost }

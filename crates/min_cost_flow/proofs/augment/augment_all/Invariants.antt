@@ -7,6 +7,6 @@ use Rattle.min_cost_flow.proofs.augment.augment_all.Given as goal
 abbrev pub invariant-loop-to : goal.invariant-loop-to
 invariant-loop-to l = record {
   meeting : IsMeeting l.net l.flow l.unmet;
-  tight : IsTight l.net.arcs l.flow (potential_of l.walks.least.least);
+  tight : IsTight l.net.arcs l.flow (potential_of l.walks.search.numbers.items);
   fewer : wanted l.unmet < wanted l.fn.unmet;
 }

@@ -1,0 +1,17 @@
+use Rattle.std.proofs.Common.{◌≡◌, ◌+◌, ◌++◌, length, set, replicate, drop, None, sym, ap, subst, ◌∙◌, arith, add-one}
+use Rattle.shortest_paths.proofs.FillLemmas.{fill_next, fill_end}
+use Rattle.shortest_paths.proofs.heap.forget.Goals as goal
+
+pub loop-index-preserved : goal.loop-index-preserved
+loop-index-preserved c =
+    let i = c.loop-index.index in
+    let t = c.loop-index-test.true in
+    let len = c.loop-index.auto.best in
+    ap (λ x. set x i None) c.loop-index.invariant ∙ fill_next i c.args.best.now None (omega arith) ∙ ap (λ n. replicate n None ++ drop n c.args.best.now) (sym (add-one i))
+
+pub returns : goal.returns
+returns c =
+    let t = c.loop-index-test.false in
+    let e = c.loop-index.auto.index-end in
+    let all : c.loop-index.index ≡ length c.args.best.now = omega arith in
+    c.loop-index.invariant ∙ fill_end c.loop-index.index c.args.best.now None all ∙ ap (λ n. replicate n None) all
