@@ -1,23 +1,27 @@
--- A frame through a biquad.
-use Rattle.std.proofs.Common.{◌≡◌, ℕ, ◌<◌, List, [], ◌∷◌, length, drop, replicate, get_or, ℤ, pos, refl, sym, ap, ◌∙◌, subst, arith}
+-- Blocks through a biquad.
+use Rattle.std.proofs.Common.{◌≡◌, ℕ, zero, suc, ◌+◌, ◌*◌, ◌<◌, ◌≤◌, List, [], ◌∷◌, ◌++◌, length, drop, replicate, get_or, ℤ, pos, refl, sym, ap, ◌∙◌, subst, arith}
+use Rattle.std.specs.Prelude.{unsigned_abs}
 use Rattle.std.proofs.lemmas.List.{get_or-map, length-map, length-replicate}
 use Rattle.std.proofs.lemmas.List.FromFn.{get_or-map-range_with_len, fill_by_all}
+use Rattle.graph_model.specs.Bounds.{IsWithin}
 use Rattle.graph_model.specs.Filters.{Coefficients, biquad_of, recursed}
-use Rattle.graph_model.specs.Histories.{Frame, History, ago, channel, window, on_each, stream}
+use Rattle.graph_model.specs.Histories.{History, ago, channel, frame_in, window, on_each, stream}
 use Rattle.graph_model.specs.Kept.{windows, Kept}
 use Rattle.graph_model.specs.QuietLaws.{biquad-cons}
 use Rattle.graph_model.specs.Ranges.{HasRange}
 use Rattle.graph_model.specs.declared.kind.Kind.{Kind}
 use Rattle.graph_model.specs.declared.graph.Bound.{Bound}
-use Rattle.graph_model.specs.Kernels.{new_kernel, IsBoundOf, IsFrameWithin}
-use Rattle.graph_model.proofs.PlanarLaws.{on_each_at, on_each_is}
-use Rattle.fixed_kernels.specs.Kernels.{Keeps, IsKernel, IsNextFrame}
-use Rattle.fixed_kernels.specs.Sections.{coefficients, section_kind, silent_tail, tail_at, last_ins, last_outs, next_out, next_tail, AreStepped}
+use Rattle.graph_model.specs.Kernels.{new_kernel, IsBoundOf}
+use Rattle.fixed_kernels.specs.Kernels.{Keeps, IsKernel, IsNextBlock}
+use Rattle.graph_model.specs.Blocks.{planar, so_far}
+use Rattle.graph_model.proofs.PlanarLaws.{channel-so_far, place, voices_out, on_each_at}
+use Rattle.fixed_kernels.specs.Sections.{coefficients, section_kind, silent_tail, tail_at, last_ins, last_outs, next_out, next_tail, tail_upto, AreStepped}
 use Rattle.fixed_kernels.specs.States.{biquad_state}
 use Rattle.fixed_kernels.specs.declared.section.Section.{Section}
 use Rattle.fixed_kernels.specs.declared.section.Tail.{Tail}
 use Rattle.fixed_kernels.proofs.ChannelFacts.{map-copies}
-use Rattle.fixed_kernels.proofs.KernelFacts.{frames, next_kernel, new_is_kernel}
+use Rattle.fixed_kernels.proofs.KernelFacts.{new_is_kernel}
+use Rattle.fixed_kernels.proofs.BlockFacts.{blocks, block_kernel, in_within}
 
 -- the last two samples, one by one
 window-two : (xs : List ℤ) → window 2 xs ≡ ago xs 0 ∷ ago xs 1 ∷ []
@@ -104,26 +108,47 @@ module _ (s : Section) (n : ℕ) (kind : Kind) (bound : Bound) (tails : List Tai
   pub biquad_new : HasRange kind → IsBoundOf kind bound → IsKernel (biquad_state s bound tails)
   biquad_new range follows = subst IsKernel (sym biquad_made) (new_is_kernel kind bound range follows)
 
+-- after the first k samples of a row
+pub tail_is : (s : Section) (t : Tail) (row p : List ℤ) → IsTailOf (coefficients s) t p → (k : ℕ)
+    → IsTailOf (coefficients s) (tail_upto s t row k) (so_far row k ++ p)
+tail_is s t row p is zero = is
+tail_is s t row p is (suc k) = tail_next s (tail_upto s t row k) (get_or row k (pos 0)) (so_far row k ++ p) (tail_is s t row p is k)
+
 module _ (s : Section) (bound : Bound) (tails : List Tail) (kernel : IsKernel (biquad_state s bound tails))
-    (f : Frame) (first : IsFrameWithin bound.ins f) (new : List Tail) (moved : AreStepped s tails f new) where
-  pub biquad_stands : (h : History) → Keeps (biquad_state s bound tails) h → Keeps (biquad_state s bound new) (f ∷ h)
+    (n : ℕ) (ins : List ℤ) (count : length ins ≡ length tails * n) (within : IsWithin bound.ins (planar (length tails) n ins))
+    (new : List Tail) (moved : AreStepped s tails n ins new) where
+  pub biquad_stands : (h : History) → Keeps (biquad_state s bound tails) h → Keeps (biquad_state s bound new) (planar (length tails) n ins ++ h)
   biquad_stands h stands =
-      tails_stand s bound new (f ∷ h)
+      tails_stand s bound new (planar (length tails) n ins ++ h)
       (λ c lt.
       let old : c < length tails = omega (arith, moved.count) in
-      subst (λ t. IsTailOf (coefficients s) t (channel c (f ∷ h))) (sym (moved.each c old))
-      (tail_next s (tail_at tails c) (get_or f c (pos 0)) (channel c h) (tails_are s bound tails h stands c old)))
+      subst (λ xs. IsTailOf (coefficients s) (tail_at new c) xs) (sym (channel-so_far (length tails) n ins h c old n (omega arith)))
+      (subst (λ t. IsTailOf (coefficients s) t (so_far (frame_in n ins c) n ++ channel c h)) (sym (moved.each c old))
+      (tail_is s (tail_at tails c) (frame_in n ins c) (channel c h) (tails_are s bound tails h stands c old) n)))
 
   pub biquad_kernel : IsKernel (biquad_state s bound new)
   biquad_kernel =
-      next_kernel (biquad_state s bound tails) (biquad_state s bound new) kernel f first
-      (ap (λ n. section_kind n s) moved.count) refl (biquad_stands kernel.history kernel.stands)
+      block_kernel (biquad_state s bound tails) kernel refl n ins within (biquad_state s bound new)
+      (ap (λ m. section_kind m s) moved.count) refl (biquad_stands kernel.history kernel.stands)
 
-  pub biquad_frames : (outs : Frame) → length outs ≡ length tails
-      → ((c : ℕ) → c < length tails → get_or outs c (pos 0) ≡ next_out s (tail_at tails c) (get_or f c (pos 0)))
-      → IsNextFrame (biquad_state s bound tails) (biquad_state s bound new) f outs
-  biquad_frames outs same values =
-      frames (biquad_state s bound tails) (biquad_state s bound new) kernel refl f outs first
-      (ap (λ n. section_kind n s) moved.count) refl biquad_stands
-      (λ h stands. on_each_is (length tails) (biquad_of (coefficients s)) (f ∷ h) outs same
-      (λ c lt. values c lt ∙ next_out_is s (tail_at tails c) (get_or f c (pos 0)) (channel c h) (tails_are s bound tails h stands c lt)))
+  pub biquad_blocks : (outs : List ℤ)
+      → ((c t : ℕ) → c < length tails → t < n
+      → get_or outs (c * n + t) (pos 0) ≡ next_out s (tail_upto s (tail_at tails c) (frame_in n ins c) t) (get_or (frame_in n ins c) t (pos 0)))
+      → IsNextBlock (biquad_state s bound tails) (biquad_state s bound new) n ins outs
+  biquad_blocks outs values =
+      blocks (biquad_state s bound tails) kernel refl n ins within (biquad_state s bound new) outs
+      (ap (λ m. section_kind m s) moved.count) refl biquad_stands
+      (λ h stands t lt. voices_out (length tails) n (biquad_of (coefficients s)) ins outs h t lt
+      (λ c lc. values c t lc lt
+      ∙ next_out_is s (tail_upto s (tail_at tails c) (frame_in n ins c) t) (get_or (frame_in n ins c) t (pos 0)) (so_far (frame_in n ins c) t ++ channel c h)
+      (tail_is s (tail_at tails c) (frame_in n ins c) (channel c h) (tails_are s bound tails h stands c lc) t)))
+
+-- no sample that comes in passes the greatest bound
+pub biquad_within : (s : Section) (bound : Bound) (tails : List Tail) (kernel : IsKernel (biquad_state s bound tails))
+    (n : ℕ) (ins : List ℤ) (count : length ins ≡ length tails * n) (within : IsWithin bound.ins (planar (length tails) n ins))
+    (most : ℕ) → ((c : ℕ) → get_or bound.ins c 0 ≤ most) → (i : ℕ) → i < length ins → unsigned_abs (get_or ins i (pos 0)) ≤ most
+biquad_within s bound tails kernel n ins count within most above i lt =
+    let p = place (length tails) n i (omega (arith, count)) in
+    let size = in_within (biquad_state s bound tails) kernel refl n ins within p.c p.t p.row p.column in
+    let below = above p.c in
+    subst (λ j. unsigned_abs (get_or ins j (pos 0)) ≤ most) (sym p.is) (omega arith)

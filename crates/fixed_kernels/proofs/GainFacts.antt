@@ -1,27 +1,45 @@
--- A frame through a gain.
-use Rattle.std.proofs.Common.{◌≡◌, ℕ, ◌^◌, ◌<◌, ◌≤◌, ◌∷◌, length, get_or, ℤ, pos, refl, subst, arith}
+-- Blocks through a gain.
+use Rattle.std.proofs.Common.{◌≡◌, ℕ, suc, ◌+◌, ◌*◌, ◌^◌, ◌<◌, ◌≤◌, List, ◌++◌, length, get_or, ℤ, pos, refl, sym, ap, ◌∙◌, subst, arith}
 use Rattle.std.specs.Prelude.{unsigned_abs, ◌*ℤ◌}
 use Rattle.graph_model.specs.Filters.{gained}
-use Rattle.graph_model.specs.Histories.{Frame}
+use Rattle.std.proofs.lemmas.List.FromFn.{get_or-map-range_with_len}
+use Rattle.graph_model.specs.Bounds.{IsWithin}
+use Rattle.graph_model.specs.Histories.{before, on_each}
+use Rattle.graph_model.proofs.BlockLaws.{sample_in}
 use Rattle.graph_model.specs.Rounding.{rounded}
 use Rattle.graph_model.specs.declared.kind.Kind.TheVariants.{Gain}
 use Rattle.graph_model.specs.declared.graph.Bound.{Bound}
-use Rattle.graph_model.specs.Kernels.{new_kernel, IsFrameWithin}
-use Rattle.graph_model.proofs.PlanarLaws.{on_each_at, on_each_is}
-use Rattle.fixed_kernels.specs.Kernels.{IsKernel, IsNextFrame}
-use Rattle.fixed_kernels.proofs.KernelFacts.{next_fits, frames}
+use Rattle.graph_model.specs.Blocks.{planar_frame, planar}
+use Rattle.fixed_kernels.proofs.BlockFacts.{blocks, in_within, out_fits}
+use Rattle.graph_model.specs.Kernels.{new_kernel}
+use Rattle.graph_model.proofs.PlanarLaws.{place, in_rows, voices_out, on_each_at}
+use Rattle.fixed_kernels.specs.Kernels.{IsKernel, IsNextBlock}
 
-module _ (n : ℕ) (g : ℤ) (bound : Bound) (kernel : IsKernel (new_kernel (Gain n g) bound))
-    (f : Frame) (count : length f ≡ n) (first : IsFrameWithin bound.ins f) where
-  pub gain_fits : (c : ℕ) → c < length f → unsigned_abs (rounded (g *ℤ get_or f c (pos 0)) 16) ≤ 2 ^ 46
-  gain_fits c lt =
-      subst (λ y. unsigned_abs y ≤ 2 ^ 46) (on_each_at n (gained g) (f ∷ kernel.history) c (omega arith))
-      (next_fits (new_kernel (Gain n g) bound) kernel refl f first c)
+-- a block through a gain
+module _ (m n : ℕ) (g : ℤ) (bound : Bound) (kernel : IsKernel (new_kernel (Gain m g) bound))
+    (ins : List ℤ) (count : length ins ≡ m * n) (within : IsWithin bound.ins (planar m n ins)) where
+  pub gain_block_fits : (i : ℕ) → i < length ins → unsigned_abs (rounded (g *ℤ get_or ins i (pos 0)) 16) ≤ 2 ^ 46
+  gain_block_fits i lt =
+      let p = place m n i (omega (arith, count)) in
+      let out : get_or (on_each m (gained g) (before (planar_frame m n ins) (suc p.t) ++ kernel.history)) p.c (pos 0) ≡ rounded (g *ℤ get_or ins i (pos 0)) 16
+      = on_each_at m (gained g) (before (planar_frame m n ins) (suc p.t) ++ kernel.history) p.c p.row
+      ∙ ap (λ y. rounded (g *ℤ y) 16) (get_or-map-range_with_len (λ d. get_or ins (d * n + p.t) (pos 0)) 0 m p.c p.c (pos 0) p.row (omega arith))
+      ∙ ap (λ j. rounded (g *ℤ get_or ins j (pos 0)) 16) (sym p.is) in
+      subst (λ y. unsigned_abs y ≤ 2 ^ 46) out (out_fits (new_kernel (Gain m g) bound) kernel refl n ins within p.t p.column p.c)
 
-  pub gain_frames : (outs : Frame) → length outs ≡ n
-      → ((c : ℕ) → c < length f → get_or outs c (pos 0) ≡ rounded (g *ℤ get_or f c (pos 0)) 16)
-      → IsNextFrame (new_kernel (Gain n g) bound) (new_kernel (Gain n g) bound) f outs
-  gain_frames outs same values =
-      frames (new_kernel (Gain n g) bound) (new_kernel (Gain n g) bound) kernel refl f outs first refl refl
+  pub gain_blocks : (outs : List ℤ)
+      → ((i : ℕ) → i < length ins → get_or outs i (pos 0) ≡ rounded (g *ℤ get_or ins i (pos 0)) 16)
+      → IsNextBlock (new_kernel (Gain m g) bound) (new_kernel (Gain m g) bound) n ins outs
+  gain_blocks outs values =
+      blocks (new_kernel (Gain m g) bound) kernel refl n ins within (new_kernel (Gain m g) bound) outs refl refl
       (λ h stands. refl)
-      (λ h stands. on_each_is n (gained g) (f ∷ h) outs same (λ c lt. values c (omega arith)))
+      (λ h stands t lt. voices_out m n (gained g) ins outs h t lt
+      (λ c lc. let inside = in_rows m n c t lc lt in
+      values (c * n + t) (omega (arith, count)) ∙ ap (λ y. rounded (g *ℤ y) 16) (sym (sample_in n ins c t lt))))
+
+  pub gain_within : (most : ℕ) → ((c : ℕ) → get_or bound.ins c 0 ≤ most) → (i : ℕ) → i < length ins → unsigned_abs (get_or ins i (pos 0)) ≤ most
+  gain_within most above i lt =
+      let p = place m n i (omega (arith, count)) in
+      let size = in_within (new_kernel (Gain m g) bound) kernel refl n ins within p.c p.t p.row p.column in
+      let below = above p.c in
+      subst (λ j. unsigned_abs (get_or ins j (pos 0)) ≤ most) (sym p.is) (omega arith)

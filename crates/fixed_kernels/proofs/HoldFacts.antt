@@ -1,24 +1,29 @@
--- A frame through a delay or an insert.
-use Rattle.std.proofs.Common.{◌≡◌, ℕ, ◌<◌, List, [], ◌∷◌, length, replicate, get_or, ℤ, pos, false, refl, sym, ap, ◌∙◌, subst, arith}
-use Rattle.circular_buffer.specs.Buffer.{Buffer, buffer}
+-- Blocks through a delay or an insert.
+use Rattle.std.proofs.Common.{◌≡◌, ℕ, ◌+◌, ◌-◌, ◌*◌, ◌<◌, List, [], ◌∷◌, ◌++◌, length, map, drop, replicate, reverse, get_or, ℤ, pos, false, refl, sym, ap, ◌∙◌, subst, arith}
+use Rattle.std.proofs.lemmas.List.{ext_get_or, get_or-map, get_or-replicate, get_or-reverse, length-map, length-replicate, length-reverse, reverse-reverse}
+use Rattle.std.proofs.lemmas.List.FromFn.{get_or-map-range_with_len, length-map-range_with_len, fill_by_all}
+use Rattle.graph_model.specs.Bounds.{IsWithin}
 use Rattle.graph_model.specs.Filters.{delayed}
-use Rattle.graph_model.specs.Histories.{Frame, History, ago, channel, on_each}
+use Rattle.graph_model.specs.Histories.{History, before, channel, frame_in, on_each, window}
 use Rattle.graph_model.specs.Kinds.{ins_of, outs_of, rule_of}
 use Rattle.graph_model.specs.Kept.{kept, ins_kept, windows, Kept}
 use Rattle.graph_model.specs.Graphs.{is_input}
+use Rattle.graph_model.specs.LimiterLaws.{get_or-padded, length-padded}
+use Rattle.graph_model.specs.StreamLaws.{get_or_zeros}
 use Rattle.graph_model.specs.Ranges.{HasRange}
 use Rattle.graph_model.specs.declared.kind.Kind.{Kind}
 use Rattle.graph_model.specs.declared.kind.Kind.TheVariants.{Input, Output, Gain, Mixer, Fir, Biquad, Limiter, Delay, Insert}
 use Rattle.graph_model.specs.declared.graph.Bound.{Bound}
-use Rattle.graph_model.specs.Kernels.{new_kernel, IsBoundOf, IsFrameWithin}
-use Rattle.graph_model.proofs.PlanarLaws.{on_each_is}
-use Rattle.fixed_kernels.specs.Kernels.{Keeps, IsKernel, IsNextFrame}
-use Rattle.fixed_kernels.specs.Lines.{line_at, samples_in, AreFull, ArePushed}
+use Rattle.graph_model.proofs.BlockLaws.{length-frame_in}
+use Rattle.graph_model.specs.Blocks.{planar_frame, planar}
+use Rattle.graph_model.specs.Kernels.{new_kernel, IsBoundOf}
+use Rattle.graph_model.proofs.PlanarLaws.{channel-so_far, voices_out}
+use Rattle.fixed_kernels.specs.Kernels.{Keeps, IsKernel, IsNextBlock}
 use Rattle.fixed_kernels.specs.States.{kept_in, hold_state}
 use Rattle.fixed_kernels.specs.Types.{IsHold}
-use Rattle.fixed_kernels.proofs.WindowLaws.{ago-cons_window}
-use Rattle.fixed_kernels.proofs.LineFacts.{line_count, line_is, stand_after, silent_stand, silent_full}
-use Rattle.fixed_kernels.proofs.KernelFacts.{frames, next_kernel, new_is_kernel}
+use Rattle.fixed_kernels.proofs.BlockFacts.{blocks, block_kernel}
+use Rattle.fixed_kernels.proofs.KernelFacts.{new_is_kernel}
+use Rattle.fixed_kernels.proofs.RowFacts.{kept_all, leaves_at}
 
 -- what holds of a delay holds of an insert
 by_hold : (P : Kind → Type 0) → ((n d : ℕ) → P (Delay n d)) → ((n d : ℕ) → P (Insert n d)) → (kind : Kind) → IsHold kind → P kind
@@ -44,57 +49,89 @@ hold_outs kind is = by_hold (λ k. outs_of k ≡ ins_of k) (λ n d. refl) (λ n 
 hold_in : (kind : Kind) → IsHold kind → is_input kind ≡ false
 hold_in kind is = by_hold (λ k. is_input k ≡ false) (λ n d. refl) (λ n d. refl) kind is
 
+-- lines as what the kind keeps
+module _ (m d : ℕ) (lines : List (List ℤ)) (h : History) where
+  pub lines_are : length lines ≡ m → ((c : ℕ) → c < m → get_or lines c [] ≡ reverse (window d (channel c h))) → map reverse lines ≡ windows m d h
+  lines_are count each =
+      fill_by_all (λ c. window d (channel c h)) (map reverse lines) m [] (length-map lines reverse ∙ count)
+      (λ c lc. get_or-map reverse lines c [] [] (omega (arith, count)) ∙ ap reverse (each c lc) ∙ reverse-reverse (window d (channel c h)))
+
+  module _ (stood : map reverse lines ≡ windows m d h) where
+    pub lines_count : length lines ≡ m
+    lines_count = sym (length-map lines reverse) ∙ ap length stood ∙ length-map-range_with_len (λ c. window d (channel c h)) 0 m
+
+    pub line_is : (c : ℕ) → c < m → get_or lines c [] ≡ reverse (window d (channel c h))
+    line_is c lc =
+        sym (reverse-reverse (get_or lines c []))
+        ∙ ap reverse
+        (sym (get_or-map reverse lines c [] [] (omega (arith, lines_count)))
+        ∙ ap (λ (xs : List (List ℤ)). get_or xs c []) stood
+        ∙ get_or-map-range_with_len (λ e. window d (channel e h)) 0 m c c [] lc (omega arith))
+
 -- its lines hold what its kind keeps
-hold_stood : (kind : Kind) (bound : Bound) (lines : List (Buffer ℤ)) → IsHold kind → (h : History) → Keeps (hold_state kind bound lines) h
-    → samples_in lines ≡ windows (ins_of kind) (ins_kept kind) h
+hold_stood : (kind : Kind) (bound : Bound) (lines : List (List ℤ)) → IsHold kind → (h : History) → Keeps (hold_state kind bound lines) h
+    → map reverse lines ≡ windows (ins_of kind) (ins_kept kind) h
 hold_stood kind bound lines is h stands = ap (λ (k : Kept). k.ins) (stands ∙ hold_kept kind is h)
 
+zeros_turned : (d : ℕ) → replicate d (pos 0) ≡ reverse (window d [])
+zeros_turned d =
+    let size : length (window d []) ≡ d = length-padded d (pos 0) [] in
+    ext_get_or (pos 0) (replicate d (pos 0)) (reverse (window d []))
+    (length-replicate d (pos 0) ∙ sym (length-reverse (window d []) ∙ size))
+    (λ i lt.
+    let at : i < length (window d []) = omega (arith, length-replicate d (pos 0), size) in
+    get_or_zeros d i
+    ∙ sym (get_or-reverse (window d []) i (pos 0) at ∙ get_or-padded d (pos 0) [] (length (window d []) - 1 - i) (omega (arith, size))))
+
 -- a new one
-module _ (kind : Kind) (bound : Bound) (lines : List (Buffer ℤ)) (is : IsHold kind) (n d : ℕ)
-    (zeros : lines ≡ replicate n (buffer (replicate d (pos 0)) d)) (many : n ≡ ins_of kind) (long : d ≡ ins_kept kind) where
+module _ (kind : Kind) (bound : Bound) (lines : List (List ℤ)) (is : IsHold kind) (n d : ℕ)
+    (zeros : lines ≡ replicate n (replicate d (pos 0))) (many : n ≡ ins_of kind) (long : d ≡ ins_kept kind) where
   pub hold_made : hold_state kind bound lines ≡ new_kernel kind bound
   hold_made =
-      let stood : samples_in lines ≡ windows (ins_of kind) (ins_kept kind) [] =
-      ap samples_in zeros ∙ silent_stand n d ∙ (λ i. windows (many i) (long i) []) in
+      let stood : map reverse lines ≡ windows (ins_of kind) (ins_kept kind) [] =
+      lines_are n d lines [] (ap length zeros ∙ length-replicate n (replicate d (pos 0)))
+      (λ c lc. ap (λ (xs : List (List ℤ)). get_or xs c []) zeros ∙ get_or-replicate n c (replicate d (pos 0)) [] lc ∙ zeros_turned d)
+      ∙ (λ i. windows (many i) (long i) []) in
       ap (λ (k : Kept). record { kind = kind; bound = bound; kept = k })
       (ap (λ (xs : List (List ℤ)). kept_in (outs_of kind) xs) stood ∙ sym (hold_kept kind is []))
 
-  pub hold_new : HasRange kind → IsBoundOf kind bound → IsHold kind × IsKernel (hold_state kind bound lines) × AreFull (ins_kept kind) lines
-  hold_new range follows = (
-    is,
-    subst IsKernel (sym hold_made) (new_is_kernel kind bound range follows),
-    subst (λ m. AreFull m lines) long (subst (λ (ls : List (Buffer ℤ)). AreFull d ls) (sym zeros) (silent_full n d)),
-  )
+  pub hold_new : HasRange kind → IsBoundOf kind bound → IsHold kind × IsKernel (hold_state kind bound lines)
+  hold_new range follows = (is, subst IsKernel (sym hold_made) (new_is_kernel kind bound range follows))
 
-module _ (kind : Kind) (bound : Bound) (lines : List (Buffer ℤ)) (is : IsHold kind) (kernel : IsKernel (hold_state kind bound lines)) where
+module _ (kind : Kind) (bound : Bound) (lines : List (List ℤ)) (is : IsHold kind) (kernel : IsKernel (hold_state kind bound lines)) where
   pub hold_count : length lines ≡ ins_of kind
-  hold_count = line_count (ins_kept kind) (ins_of kind) lines kernel.history (hold_stood kind bound lines is kernel.history kernel.stands)
+  hold_count = lines_count (ins_of kind) (ins_kept kind) lines kernel.history (hold_stood kind bound lines is kernel.history kernel.stands)
 
-  module _ (full : AreFull (ins_kept kind) lines) (f : Frame) (first : IsFrameWithin bound.ins f)
-      (new : List (Buffer ℤ)) (moved : ArePushed lines f new) where
-    pub hold_stands : (h : History) → Keeps (hold_state kind bound lines) h → Keeps (hold_state kind bound new) (f ∷ h)
+  module _ (n : ℕ) (ins : List ℤ) (count : length ins ≡ ins_of kind * n) (within : IsWithin bound.ins (planar (ins_of kind) n ins))
+      (new : List (List ℤ)) (as_many : length new ≡ length lines)
+      (fed : (c : ℕ) → c < length lines → get_or new c [] ≡ drop n (get_or lines c [] ++ frame_in n ins c)) where
+    pub hold_stands : (h : History) → Keeps (hold_state kind bound lines) h → Keeps (hold_state kind bound new) (planar (ins_of kind) n ins ++ h)
     hold_stands h stands =
+        let m : ℕ = ins_of kind in
+        let d : ℕ = ins_kept kind in
         ap (λ (xs : List (List ℤ)). kept_in (outs_of kind) xs)
-        (stand_after (ins_kept kind) (ins_of kind) lines h (hold_stood kind bound lines is h stands) f full new moved)
-        ∙ sym (hold_kept kind is (f ∷ h))
+        (lines_are (ins_of kind) (ins_kept kind) new (planar (ins_of kind) n ins ++ h) (as_many ∙ hold_count)
+        (λ c lc.
+        fed c (omega (arith, hold_count))
+        ∙ ap (λ zs. drop n (zs ++ frame_in n ins c)) (line_is (ins_of kind) (ins_kept kind) lines h (hold_stood kind bound lines is h stands) c lc)
+        ∙ sym (kept_all (ins_kept kind) (channel c h) (frame_in n ins c) n (length-frame_in n (ins_of kind) ins c count lc))
+        ∙ ap (λ xs. reverse (window (ins_kept kind) xs)) (sym (channel-so_far (ins_of kind) n ins h c lc n (omega arith)))))
+        ∙ sym (hold_kept kind is (planar (ins_of kind) n ins ++ h))
 
     pub hold_kernel : IsKernel (hold_state kind bound new)
-    hold_kernel = next_kernel (hold_state kind bound lines) (hold_state kind bound new) kernel f first refl refl (hold_stands kernel.history kernel.stands)
+    hold_kernel =
+        block_kernel (hold_state kind bound lines) kernel (hold_in kind is) n ins within (hold_state kind bound new) refl refl (hold_stands kernel.history kernel.stands)
 
-    pub hold_frames : (outs : Frame) → length outs ≡ ins_of kind
-        → ((c : ℕ) → c < length lines → get_or outs c (pos 0) ≡ ago (get_or f c (pos 0) ∷ (line_at lines c).items) (line_at lines c).capacity)
-        → IsNextFrame (hold_state kind bound lines) (hold_state kind bound new) f outs
-    hold_frames outs same values =
-        frames (hold_state kind bound lines) (hold_state kind bound new) kernel (hold_in kind is) f outs first refl refl hold_stands
-        (λ h stands.
-        on_each_is (ins_of kind) (delayed (ins_kept kind)) (f ∷ h) outs same
-        (λ c lt.
-        let stood = hold_stood kind bound lines is h stands in
-        let old : c < length lines = omega (arith, hold_count) in
-        let room : (line_at lines c).capacity ≡ ins_kept kind = (full c old).0 in
-        let items = line_is (ins_kept kind) (ins_of kind) lines h stood c lt in
-        values c old
-        ∙ ap (λ n. ago (get_or f c (pos 0) ∷ (line_at lines c).items) n) room
-        ∙ ap (λ (xs : List ℤ). ago (get_or f c (pos 0) ∷ xs) (ins_kept kind)) items
-        ∙ ago-cons_window (ins_kept kind) (get_or f c (pos 0)) (channel c h))
-        ∙ sym (hold_rule kind is (f ∷ h)))
+    pub hold_blocks : (outs : List ℤ)
+        → ((c t : ℕ) → c < length lines → t < n → get_or outs (c * n + t) (pos 0) ≡ get_or (get_or lines c [] ++ frame_in n ins c) t (pos 0))
+        → IsNextBlock (hold_state kind bound lines) (hold_state kind bound new) n ins outs
+    hold_blocks outs values =
+        blocks (hold_state kind bound lines) kernel (hold_in kind is) n ins within (hold_state kind bound new) outs refl refl hold_stands
+        (λ h stands t lt.
+        ap (λ e. planar_frame e n outs t) (hold_outs kind is)
+        ∙ voices_out (ins_of kind) n (delayed (ins_kept kind)) ins outs h t lt
+        (λ c lc.
+        values c t (omega (arith, hold_count)) lt
+        ∙ ap (λ zs. get_or (zs ++ frame_in n ins c) t (pos 0)) (line_is (ins_of kind) (ins_kept kind) lines h (hold_stood kind bound lines is h stands) c lc)
+        ∙ leaves_at (ins_kept kind) (channel c h) (frame_in n ins c) t (omega (arith, length-frame_in n (ins_of kind) ins c count lc)))
+        ∙ sym (hold_rule kind is (planar_frame (ins_of kind) n ins t ∷ (before (planar_frame (ins_of kind) n ins) t ++ h))))

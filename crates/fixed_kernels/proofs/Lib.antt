@@ -1,8 +1,10 @@
 pub mod SumLaws
 pub mod WindowLaws
 pub mod ChannelFacts
-pub mod LineFacts
 pub mod KernelFacts
+pub mod BlockFacts
+pub mod RowFacts
+pub mod NarrowFacts
 pub mod GainFacts
 pub mod MixerFacts
 pub mod HoldFacts

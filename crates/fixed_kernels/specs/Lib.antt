@@ -1,6 +1,7 @@
 pub mod Kernels
 pub mod Streams
 pub mod Types
-pub mod Lines
 pub mod Sections
 pub mod States
+pub mod Rows
+pub mod Sums

@@ -1,13 +1,12 @@
 -- What contracts see of the fields of each kernel.
-use Rattle.std.specs.Prelude.{ℕ, List, [], length, ℤ}
+use Rattle.std.specs.Prelude.{ℕ, List, [], length, map, reverse, ℤ}
 use Rattle.graph_model.specs.Kinds.{outs_of}
 use Rattle.graph_model.specs.Kept.{Kept, windows}
 use Rattle.graph_model.specs.declared.kind.Kind.{Kind}
 use Rattle.graph_model.specs.declared.kind.Kind.TheVariants.{Fir}
 use Rattle.graph_model.specs.declared.graph.Bound.{Bound}
-use Rattle.circular_buffer.specs.Buffer.{Buffer}
 use Rattle.graph_model.specs.Kernels.{KernelState}
-use Rattle.fixed_kernels.specs.Lines.{samples_in}
+use Rattle.fixed_kernels.specs.Rows.{kept_rows}
 use Rattle.fixed_kernels.specs.Sections.{last_ins, last_outs, section_kind}
 use Rattle.fixed_kernels.specs.declared.section.Section.{Section}
 use Rattle.fixed_kernels.specs.declared.section.Tail.{Tail}
@@ -16,14 +15,16 @@ use Rattle.fixed_kernels.specs.declared.section.Tail.{Tail}
 abbrev pub kept_in : ℕ → List (List ℤ) → Kept
 kept_in n ins = record { ins = ins; outs = windows n 0 []; scales = []; lowests = [] }
 
-abbrev pub hold_state : Kind → Bound → List (Buffer ℤ) → KernelState
-hold_state kind bound lines = record { kind = kind; bound = bound; kept = kept_in (outs_of kind) (samples_in lines) }
+-- each line holds the last samples of a channel, the oldest first
+abbrev pub hold_state : Kind → Bound → List (List ℤ) → KernelState
+hold_state kind bound lines = record { kind = kind; bound = bound; kept = kept_in (outs_of kind) (map reverse lines) }
 
-abbrev pub fir_state : List ℤ → ℕ → ℕ → Bound → List (Buffer ℤ) → KernelState
-fir_state taps shift latency bound lines = record {
-  kind = Fir (length lines) taps shift latency;
+-- the taps and the samples stand backward, the samples of m channels in rows
+abbrev pub fir_state : List ℤ → ℕ → ℕ → Bound → ℕ → List ℤ → KernelState
+fir_state backward shift latency bound m past = record {
+  kind = Fir m (reverse backward) shift latency;
   bound = bound;
-  kept = kept_in (length lines) (samples_in lines);
+  kept = kept_in m (kept_rows m (length backward) past);
 }
 
 abbrev pub biquad_state : Section → Bound → List Tail → KernelState

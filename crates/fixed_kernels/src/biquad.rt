@@ -1,15 +1,17 @@
 //! Biquads.
 
-ghost use Rattle.std.specs.Prelude.{◌≡◌, ℕ, ◌<◌, ◌≤◌, IfOk, length, pos, replicate, slice_index_or};
+ghost use Rattle.std.specs.Prelude.{◌≡◌, ℕ, ◌+◌, ◌*◌, ◌<◌, ◌≤◌, IfOk, length, pos, replicate, slice_index_or, unsigned_abs};
+ghost use Rattle.graph_model.specs.Histories.{frame_in};
 ghost use Rattle.graph_model.specs.Kinds.{ins_of};
 ghost use Rattle.graph_model.specs.Ranges.{HasRange};
 ghost use Rattle.graph_model.specs.Kernels.{IsBoundOf};
 ghost use Rattle.fixed_kernels.specs.Kernels.{IsNew};
 ghost use Rattle.fixed_kernels.specs.Streams.{streams_are_causal, streams_are_quiet};
-ghost use Rattle.fixed_kernels.specs.Sections.{AreStepped, next_out, section_kind, silent_tail, tail_at};
+ghost use Rattle.fixed_kernels.specs.Sections.{AreStepped, IsLight, IsSmallTail, next_out, section_kind, silent_tail, tail_at, tail_upto};
 ghost use Rattle.fixed_kernels.specs.Types.{IsBiquad};
 
 use crate::kernel::Kernel;
+use crate::narrow::greatest;
 use crate::section::{Section, Tail};
 use graph_model::{Bound, Kind};
 use std::alloc::{AllocError, Global};
@@ -63,8 +65,9 @@ impl Kernel for Biquad {
 
     ghost quiet = { streams_are_quiet };
 
-    fn frame(&mut self, ins: &[i64], outs: &mut [i64]) {
-        step_each(&self.section, &mut self.tails, ins, outs);
+    fn process_block(&mut self, frames: usize, ins: &[i64], outs: &mut [i64]) {
+        let most = greatest(self.bound.ins.as_slice());
+        step_rows(&self.section, &mut self.tails, most, frames, ins, outs);
     }
 }
 
@@ -112,17 +115,86 @@ fn silent_tails(alloc: Global, channels: usize) -> Result<Vec<Tail>, AllocError>
     Ok(tails)
 }
 
-/// Steps each channel by its sample.
-fn step_each(section: &Section, tails: &mut [Tail], ins: &[i64], outs: &mut [i64])
+/// Steps each channel by its row.
+fn step_rows(
+    section: &Section,
+    tails: &mut [Tail],
+    most: u64,
+    frames: usize,
+    ins: &[i64],
+    outs: &mut [i64],
+)
     requires shift { section.now.shift ≤ 30 }
     requires bits { section.now.bits ≤ 40 }
-    requires ins { length ins.now ≡ length tails.old }
-    requires outs { length outs.old ≡ length tails.old }
-    ensures tails { AreStepped section.now tails.old ins.now tails.new }
-    ensures values { (c : ℕ) → c < length tails.old →
-        slice_index_or outs.new c (pos 0) ≡ next_out section.now (tail_at tails.old c) (slice_index_or ins.now c (pos 0)) }
+    requires ins { length ins.now ≡ length tails.old * frames }
+    requires within { (k : ℕ) → k < length ins.now → unsigned_abs (slice_index_or ins.now k (pos 0)) ≤ most }
+    requires outs { length outs.old ≡ length tails.old * frames }
+    ensures tails { AreStepped section.now tails.old frames ins.now tails.new }
+    ensures values { (c t : ℕ) → c < length tails.old → t < frames →
+        slice_index_or outs.new (c * frames + t) (pos 0)
+        ≡ next_out section.now (tail_upto section.now (tail_at tails.old c) (frame_in frames ins.now c) t) (slice_index_or (frame_in frames ins.now c) t (pos 0)) }
 {
     for c in 0..tails.len() {
-        outs[c] = section.step(&mut tails[c], ins[c]);
+        let from = c * frames;
+        tails[c] = step_row(
+            section,
+            tails[c],
+            most,
+            &ins[from..from + frames],
+            &mut outs[from..from + frames],
+        );
     }
+}
+
+/// Steps a channel by each sample of its row, and gives what is kept then.
+fn step_row(section: &Section, tail: Tail, most: u64, ins: &[i64], outs: &mut [i64]) -> Tail
+    requires shift { section.now.shift ≤ 30 }
+    requires bits { section.now.bits ≤ 40 }
+    requires within { (k : ℕ) → k < length ins.now → unsigned_abs (slice_index_or ins.now k (pos 0)) ≤ most }
+    requires outs { length outs.old ≡ length ins.now }
+    ensures tail { result ≡ tail_upto section.now tail ins.now (length ins.now) }
+    ensures values { (t : ℕ) → t < length ins.now →
+        slice_index_or outs.new t (pos 0) ≡ next_out section.now (tail_upto section.now tail ins.now t) (slice_index_or ins.now t (pos 0)) }
+{
+    if section.is_narrow(&tail, most) {
+        step_row_narrow(section, tail, most, ins, outs)
+    } else {
+        step_row_wide(section, tail, ins, outs)
+    }
+}
+
+/// The same in 64 bits.
+fn step_row_narrow(section: &Section, tail: Tail, most: u64, ins: &[i64], outs: &mut [i64]) -> Tail
+    requires shift { section.now.shift ≤ 30 }
+    requires bits { section.now.bits ≤ 40 }
+    requires light { IsLight section.now most }
+    requires tail { IsSmallTail section.now most tail }
+    requires within { (k : ℕ) → k < length ins.now → unsigned_abs (slice_index_or ins.now k (pos 0)) ≤ most }
+    requires outs { length outs.old ≡ length ins.now }
+    ensures tail { result ≡ tail_upto section.now tail ins.now (length ins.now) }
+    ensures values { (t : ℕ) → t < length ins.now →
+        slice_index_or outs.new t (pos 0) ≡ next_out section.now (tail_upto section.now tail ins.now t) (slice_index_or ins.now t (pos 0)) }
+{
+    let section = *section;
+    let mut state = tail;
+    for t in 0..ins.len() {
+        outs[t] = section.step_narrow(&mut state, ins[t], most);
+    }
+    state
+}
+
+/// The same in 128 bits.
+fn step_row_wide(section: &Section, tail: Tail, ins: &[i64], outs: &mut [i64]) -> Tail
+    requires shift { section.now.shift ≤ 30 }
+    requires bits { section.now.bits ≤ 40 }
+    requires outs { length outs.old ≡ length ins.now }
+    ensures tail { result ≡ tail_upto section.now tail ins.now (length ins.now) }
+    ensures values { (t : ℕ) → t < length ins.now →
+        slice_index_or outs.new t (pos 0) ≡ next_out section.now (tail_upto section.now tail ins.now t) (slice_index_or ins.now t (pos 0)) }
+{
+    let mut state = tail;
+    for t in 0..ins.len() {
+        outs[t] = section.step(&mut state, ins[t]);
+    }
+    state
 }

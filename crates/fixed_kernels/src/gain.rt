@@ -1,6 +1,6 @@
 //! Gains.
 
-ghost use Rattle.std.specs.Prelude.{◌≡◌, ℕ, ◌<◌, ◌≤◌, ◌^◌, ◌*ℤ◌, IfOk, length, pos, slice_index_or, unsigned_abs};
+ghost use Rattle.std.specs.Prelude.{◌≡◌, ℕ, ◌<◌, ◌≤◌, ◌^◌, ◌*◌, ◌*ℤ◌, IfOk, length, pos, slice_index_or, unsigned_abs};
 ghost use Rattle.graph_model.specs.Ranges.{HasRange};
 ghost use Rattle.graph_model.specs.Rounding.{rounded};
 ghost use Rattle.graph_model.specs.Kernels.{IsBoundOf};
@@ -9,6 +9,7 @@ ghost use Rattle.fixed_kernels.specs.Streams.{streams_are_causal, streams_are_qu
 ghost use Rattle.fixed_kernels.specs.Types.{IsGain};
 
 use crate::kernel::Kernel;
+use crate::narrow::{greatest, narrow_product, rs_narrow};
 use crate::products::product;
 use graph_model::{Bound, Kind, rs};
 use std::alloc::{AllocError, Global};
@@ -61,13 +62,42 @@ impl Kernel for Gain {
 
     ghost quiet = { streams_are_quiet };
 
-    fn frame(&mut self, ins: &[i64], outs: &mut [i64]) {
-        scale(self.gain, ins, outs);
+    fn process_block(&mut self, frames: usize, ins: &[i64], outs: &mut [i64]) {
+        let most = greatest(self.bound.ins.as_slice());
+        scale(self.gain, most, ins, outs);
     }
 }
 
 /// Multiplies each sample by the gain.
-fn scale(gain: i32, ins: &[i64], outs: &mut [i64])
+fn scale(gain: i32, most: u64, ins: &[i64], outs: &mut [i64])
+    requires count { length outs.old ≡ length ins.now }
+    requires within { (c : ℕ) → c < length ins.now → unsigned_abs (slice_index_or ins.now c (pos 0)) ≤ most }
+    requires fits { (c : ℕ) → c < length ins.now → unsigned_abs (rounded (gain *ℤ slice_index_or ins.now c (pos 0)) 16) ≤ 2 ^ 46 }
+    ensures { (c : ℕ) → c < length ins.now →
+        slice_index_or outs.new c (pos 0) ≡ rounded (gain *ℤ slice_index_or ins.now c (pos 0)) 16 }
+{
+    if gain.unsigned_abs() as u128 * most as u128 <= 1 << 62 {
+        scale_narrow(gain, most, ins, outs);
+    } else {
+        scale_wide(gain, ins, outs);
+    }
+}
+
+/// The same in 64 bits.
+fn scale_narrow(gain: i32, most: u64, ins: &[i64], outs: &mut [i64])
+    requires count { length outs.old ≡ length ins.now }
+    requires small { unsigned_abs gain * most ≤ 2 ^ 62 }
+    requires within { (c : ℕ) → c < length ins.now → unsigned_abs (slice_index_or ins.now c (pos 0)) ≤ most }
+    ensures { (c : ℕ) → c < length ins.now →
+        slice_index_or outs.new c (pos 0) ≡ rounded (gain *ℤ slice_index_or ins.now c (pos 0)) 16 }
+{
+    for c in 0..ins.len() {
+        outs[c] = rs_narrow(narrow_product(gain, ins[c], most), 16);
+    }
+}
+
+/// The same in 128 bits.
+fn scale_wide(gain: i32, ins: &[i64], outs: &mut [i64])
     requires count { length outs.old ≡ length ins.now }
     requires fits { (c : ℕ) → c < length ins.now → unsigned_abs (rounded (gain *ℤ slice_index_or ins.now c (pos 0)) 16) ≤ 2 ^ 46 }
     ensures { (c : ℕ) → c < length ins.now →

@@ -5,14 +5,14 @@
 //! them, `Keeps`, over the definitions of `graph_model`. The filters are those of Oppenheim and Schafer, Discrete-Time
 //! Signal Processing: the finite impulse response as a sum of products over a delay line, the biquad in direct form 1.
 //!
-//! It promises that a kernel is made for the empty history, and that each frame that goes out is the last one of the
-//! kind's stream of what came in, for every history; that no output passes its bound where no input does, and that no
-//! sum and no cast loses anything; that a frame takes no memory and is never refused. Two laws hold of every kernel
+//! It promises that a kernel is made for the empty history, and that the frames that go out are the last ones of
+//! the kind's stream of what came in, for every history; that no output passes its bound where no input does, and that no
+//! sum and no cast loses anything; that a block takes no memory and is never refused. Two laws hold of every kernel
 //! ([`laws`]): its stream is causal, and quiet.
 //!
-//! Kernels of other crates stand on its delay lines and on its words for kernels.
+//! Kernels of other crates stand on its trait and on its words for kernels.
 //!
-//! It stands on `graph_model`, and on `circular_buffer` for the delay lines.
+//! It stands on `graph_model`, and on `delay_lines` for delays and inserts.
 #![tactic(auto)]
 
 mod biquad;
@@ -21,8 +21,8 @@ mod gain;
 mod hold;
 mod kernel;
 pub mod laws;
-mod lines;
 mod mixer;
+mod narrow;
 mod products;
 mod section;
 #[cfg(test)]
@@ -33,5 +33,4 @@ pub use fir::Fir;
 pub use gain::Gain;
 pub use hold::Hold;
 pub use kernel::Kernel;
-pub use lines::{Line, silent_lines};
 pub use mixer::Mixer;

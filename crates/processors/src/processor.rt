@@ -61,14 +61,14 @@ impl Kernel for Processor {
 
     ghost quiet = { streams_are_quiet };
 
-    fn frame(&mut self, ins: &[i64], outs: &mut [i64]) {
+    fn process_block(&mut self, frames: usize, ins: &[i64], outs: &mut [i64]) {
         match &mut self.server {
-            Server::Gain(gain) => gain.frame(ins, outs),
-            Server::Mixer(mixer) => mixer.frame(ins, outs),
-            Server::Fir(fir) => fir.frame(ins, outs),
-            Server::Biquad(biquad) => biquad.frame(ins, outs),
-            Server::Hold(hold) => hold.frame(ins, outs),
-            Server::Limiter(limiter) => limiter.frame(ins, outs),
+            Server::Gain(gain) => gain.process_block(frames, ins, outs),
+            Server::Mixer(mixer) => mixer.process_block(frames, ins, outs),
+            Server::Fir(fir) => fir.process_block(frames, ins, outs),
+            Server::Biquad(biquad) => biquad.process_block(frames, ins, outs),
+            Server::Hold(hold) => hold.process_block(frames, ins, outs),
+            Server::Limiter(limiter) => limiter.process_block(frames, ins, outs),
         }
     }
 }

@@ -1,5 +1,5 @@
-use Rattle.std.proofs.Common.{◌≡◌, [], length, refl, replicate, List, ℤ, pos, sym, ap, ◌∙◌, subst}
-use Rattle.circular_buffer.specs.Buffer.{Buffer, buffer}
+use Rattle.std.proofs.Common.{◌≡◌, ◌+◌, ◌*◌, [], length, replicate, reverse, pos, refl, sym, ap, ◌∙◌, subst, arith}
+use Rattle.std.proofs.lemmas.List.{length-replicate}
 use Rattle.graph_model.specs.Ranges.{HasRange}
 use Rattle.graph_model.specs.declared.kind.Kind.{Kind}
 use Rattle.graph_model.specs.declared.kind.Kind.TheVariants.{Fir}
@@ -11,32 +11,35 @@ use Rattle.fixed_kernels.proofs.fir.Fir.make.Goals as goal
 
 pub invariant_of-result : goal.invariant_of-result
 invariant_of-result c =
-    let taps : List ℤ = c.in_ok-copy.field-0 in
-    let bound : Bound = c.in_ok-copy-2.field-0 in
-    let lines : List (Buffer ℤ) = c.in_ok-lines.lines.items in
-    let same : taps ≡ c.in-Fir.taps = c.in_ok-copy.ensures in
-    let equal : bound ≡ c.args.bound.now = c.in_ok-copy-2.ensures in
-    let kind : c.args.kind.now ≡ Fir c.in-Fir.channels taps c.in-Fir.shift c.in-Fir.latency
-    = c.in-Fir.is ∙ ap (λ (ts : List ℤ). Fir c.in-Fir.channels ts c.in-Fir.shift c.in-Fir.latency) (sym same) in
-    let zeros : lines ≡ replicate c.in-Fir.channels (buffer (replicate (length taps) (pos 0)) (length taps))
-    = c.in_ok-lines.ensures ∙ ap (λ n. replicate c.in-Fir.channels (buffer (replicate n (pos 0)) n)) (c.len.ensures ∙ sym (ap length same)) in
-    fir_new taps c.in-Fir.shift c.in-Fir.latency c.in-Fir.channels bound lines zeros
-    (subst HasRange kind c.requires.range)
-    (subst (λ (k : Kind). IsBoundOf k bound) kind (subst (IsBoundOf c.args.kind.now) (sym equal) c.requires.bound))
+    let k = c.in-Fir in
+    let bound : Bound = c.in_ok-copy.field-0 in
+    let turned : c.reverse.new.self.items ≡ reverse k.taps = c.reverse.ensures.items ∙ ap reverse (c.in_ok-backward.ensures.items ∙ c.as_slice.ensures) in
+    let len : c.len.result ≡ length c.reverse.new.self.items = omega (arith, c.len.ensures, c.reverse.new.self.ok.0) in
+    let zeros : c.in_ok-past.past.items ≡ replicate (k.channels * length c.reverse.new.self.items) (pos 0)
+    = c.in_ok-past.ensures.items_if_clones_equal (λ y e. e) ∙ ap (λ n. replicate (k.channels * n) (pos 0)) len in
+    let size : length c.in_ok-past.past.items ≡ k.channels * length c.reverse.new.self.items
+    = ap length zeros ∙ length-replicate (k.channels * length c.reverse.new.self.items) (pos 0) in
+    let room : length c.in_ok-line.line.items ≡ length c.reverse.new.self.items + 64
+    = omega (arith, c.in_ok-line.ensures.len, c.in_ok-line.line.ok.0, c.len-2.ensures, c.reverse.new.self.ok.0) in
+    let same : c.args.kind.now ≡ Fir k.channels k.taps k.shift k.latency = k.is in (
+      fir_new k.taps c.reverse.new.self.items k.shift k.latency k.channels bound c.in_ok-past.past.items turned zeros
+          (subst HasRange same c.requires.range)
+          (subst (λ (z : Kind). IsBoundOf z bound) same (subst (IsBoundOf c.args.kind.now) (sym c.in_ok-copy.ensures) c.requires.bound)),
+      size,
+      room,
+    )
 
 pub returns : goal.returns
 returns c =
-    let taps : List ℤ = c.in_ok-copy.field-0 in
-    let bound : Bound = c.in_ok-copy-2.field-0 in
-    let lines : List (Buffer ℤ) = c.in_ok-lines.lines.items in
-    let same : taps ≡ c.in-Fir.taps = c.in_ok-copy.ensures in
-    let zeros : lines ≡ replicate c.in-Fir.channels (buffer (replicate (length taps) (pos 0)) (length taps))
-    = c.in_ok-lines.ensures ∙ ap (λ n. replicate c.in-Fir.channels (buffer (replicate n (pos 0)) n)) (c.len.ensures ∙ sym (ap length same)) in
-    let kind : c.args.kind.now ≡ Fir c.in-Fir.channels taps c.in-Fir.shift c.in-Fir.latency
-    = c.in-Fir.is ∙ ap (λ (ts : List ℤ). Fir c.in-Fir.channels ts c.in-Fir.shift c.in-Fir.latency) (sym same) in
-    let made = fir_made taps c.in-Fir.shift c.in-Fir.latency c.in-Fir.channels bound lines zeros in
+    let k = c.in-Fir in
+    let bound : Bound = c.in_ok-copy.field-0 in
+    let turned : c.reverse.new.self.items ≡ reverse k.taps = c.reverse.ensures.items ∙ ap reverse (c.in_ok-backward.ensures.items ∙ c.as_slice.ensures) in
+    let len : c.len.result ≡ length c.reverse.new.self.items = omega (arith, c.len.ensures, c.reverse.new.self.ok.0) in
+    let zeros : c.in_ok-past.past.items ≡ replicate (k.channels * length c.reverse.new.self.items) (pos 0)
+    = c.in_ok-past.ensures.items_if_clones_equal (λ y e. e) ∙ ap (λ n. replicate (k.channels * n) (pos 0)) len in
+    let made = fir_made k.taps c.reverse.new.self.items k.shift k.latency k.channels bound c.in_ok-past.past.items turned zeros in
     record {
-      kind = ap (λ (k : KernelState). k.kind) made ∙ sym kind;
-      bound = c.in_ok-copy-2.ensures;
-      stands = subst (λ (k : KernelState). Keeps k []) (sym made) refl;
+      kind = ap (λ (v : KernelState). v.kind) made ∙ sym k.is;
+      bound = c.in_ok-copy.ensures;
+      stands = subst (λ (v : KernelState). Keeps v []) (sym made) refl;
     }
