@@ -1,5 +1,5 @@
 -- The residual network of a flow that has potentials: it meets what a search asks for, and the search gives potentials again.
-use Rattle.std.proofs.Common.{◌≡◌, ◌≢◌, ℕ, zero, suc, ◌+◌, ◌*◌, ◌<◌, ◌≤◌, ◌^◌, ℤ, pos, ◌+ℤ◌, ◌-ℤ◌, neg_ℤ, ◌≤ℤ◌, List, [], ◌∷◌, length, map, Option, Some, None, inl, inr, refl, sym, ap, subst, ◌∙◌, arith, slice_get, slice_index, slice_index_or}
+use Rattle.std.proofs.Common.{◌≡◌, ◌≢◌, ℕ, zero, suc, ◌+◌, ◌<◌, ◌≤◌, ◌^◌, ℤ, pos, ◌+ℤ◌, ◌≤ℤ◌, List, [], ◌∷◌, length, map, Option, Some, None, inl, inr, refl, sym, ap, subst, ◌∙◌, arith, slice_get}
 use Rattle.std.specs.List.{Contains, All}
 use Rattle.std.proofs.lemmas.Int.{ints}
 use Rattle.std.proofs.lemmas.Bool.{cases_eq, cases_lt}
@@ -11,7 +11,7 @@ use Rattle.min_cost_flow.specs.declared.network.Step.{Step}
 use Rattle.min_cost_flow.specs.declared.residual.Residual.{Residual}
 use Rattle.min_cost_flow.specs.Flow.{IsTight, length_of}
 use Rattle.min_cost_flow.specs.Residual.{forward, backward, IsMove, more, fewer, IsResidual, IsTreeTight}
-use Rattle.min_cost_flow.specs.Search.{IsSearchOf, Ends, potential_of}
+use Rattle.min_cost_flow.specs.Search.{IsSearchOf, potential_of}
 use Rattle.min_cost_flow.proofs.ResidualLemmas.{forward_in, backward_in, move_at, residual_all}
 use Rattle.min_cost_flow.proofs.SendLemmas.{climb_unique}
 use Rattle.shortest_paths.specs.declared.edges.Edge.{Edge}
@@ -19,7 +19,7 @@ use Rattle.shortest_paths.specs.declared.heap.Searcher.{Searcher}
 use Rattle.shortest_paths.specs.Walks.{IsWalk, Joins, IsWithin, Reaches, number_of, EndsLeast, ClimbsIn}
 use Rattle.shortest_paths.specs.Usable.{usable}
 use Rattle.shortest_paths.specs.Nearest.{Permits, AreSmall, IsLinked}
-use Rattle.shortest_paths.proofs.UsableLemmas.{usable_tail, usable_all}
+use Rattle.shortest_paths.proofs.UsableLemmas.{usable_all}
 use Rattle.shortest_paths.proofs.ShortLemmas.{number_within}
 use Rattle.shortest_paths.proofs.WalkLemmas.{some_same, edge_at}
 

@@ -1,17 +1,15 @@
 -- What the points have after a search, also one that stopped early.
-use Rattle.std.proofs.Common.{◌≡◌, ◌≢◌, ℕ, zero, suc, ◌+◌, ◌*◌, ◌<◌, ◌≤◌, ◌^◌, ◌⊎◌, ℤ, pos, neg_ℤ, ◌+ℤ◌, ◌-ℤ◌, ◌≤ℤ◌, ◌<ℤ◌, List, [], ◌∷◌, ◌++◌, length, slice_get, slice_index_or, Option, Some, None, inl, inr, refl, sym, ap, subst, ◌∙◌, arith}
-use Rattle.std.specs.List.{Contains, All}
+use Rattle.std.proofs.Common.{◌≡◌, ◌≢◌, ℕ, zero, suc, ◌<◌, ℤ, pos, ◌+ℤ◌, ◌≤ℤ◌, List, [], ◌∷◌, ◌++◌, length, slice_get, slice_index_or, Option, Some, None, inl, inr, refl, sym, ap, subst, ◌∙◌, arith}
+use Rattle.std.specs.List.{All}
 use Rattle.std.proofs.lemmas.Int.{ints}
-use Rattle.std.proofs.lemmas.Bool.{cases_eq}
 use Rattle.std.proofs.lemmas.Option.{slice_get-get_or, slice_get_within, get_or_from_slice_get}
 use Rattle.std.proofs.lemmas.List.Elements.{All-contains}
 use Rattle.shortest_paths.specs.declared.edges.Edge.{Edge}
 use Rattle.shortest_paths.specs.declared.edges.Best.{Best}
-use Rattle.shortest_paths.specs.Walks.{Joins, IsWithin, IsWalk, Reaches, IsLeastCost, EndsLeast, ClimbsIn, cost_of, number_of}
-use Rattle.shortest_paths.specs.Search.{found, AtMost, IsSearched, AreSettled, LastOf}
-use Rattle.shortest_paths.specs.Nearest.{Permits, AreSettledBelow, IsCutAt, IsCut, IsLinked}
+use Rattle.shortest_paths.specs.Walks.{Joins, IsWalk, IsLeastCost, EndsLeast, ClimbsIn, cost_of, number_of}
+use Rattle.shortest_paths.specs.Search.{found, IsSearched}
+use Rattle.shortest_paths.specs.Nearest.{Permits, AreSettledBelow, IsCut, IsLinked}
 use Rattle.shortest_paths.proofs.WalkLemmas.{some_same, edge_at, walk_from_potentials, walk_from_back, back_from_traced, IsWalk-append, cost_of-append}
-use Rattle.shortest_paths.proofs.FinalLemmas.{found_all}
 use Rattle.shortest_paths.proofs.TreeLemmas.{Older, tree_from_older}
 
 module _ (edges : List Edge) (points from : ℕ) (best : List (Option Best)) (limit : ℤ) (old new : List ℤ) (last : List (Option ℕ))

@@ -1,5 +1,5 @@
 -- Going over the edges that leave a point.
-use Rattle.std.proofs.Common.{◌≡◌, ◌≢◌, ℕ, suc, ◌+◌, ◌*◌, ◌<◌, ◌≤◌, ℤ, pos, List, length, slice_get, slice_index_or, Option, Some, None, inl, inr, refl, sym, ap, subst, ◌∙◌, arith, ◌⊎◌}
+use Rattle.std.proofs.Common.{◌≡◌, ◌≢◌, ℕ, suc, ◌<◌, ◌≤◌, ℤ, pos, List, length, slice_get, slice_index_or, Option, Some, None, inl, inr, sym, ap, subst, ◌∙◌, arith}
 use Rattle.std.specs.List.{Contains}
 use Rattle.std.proofs.lemmas.Bool.{cases_eq, cases_lt}
 use Rattle.std.proofs.lemmas.Option.{slice_get-get_or, slice_get_within}
@@ -7,7 +7,7 @@ use Rattle.shortest_paths.specs.declared.edges.Edge.{Edge}
 use Rattle.shortest_paths.specs.declared.edges.Best.{Best}
 use Rattle.shortest_paths.specs.Usable.{usable}
 use Rattle.shortest_paths.specs.Leaving.{IsLatest}
-use Rattle.shortest_paths.specs.Nearest.{Waiter, Waits, AllWait, AllWaitBut, IsRelaxed, AreWaiters}
+use Rattle.shortest_paths.specs.Nearest.{Waiter, Waits, AllWait, IsRelaxed, AreWaiters}
 use Rattle.shortest_paths.proofs.UsableLemmas.{usable_tail}
 use Rattle.shortest_paths.proofs.WalkLemmas.{some_same}
 

@@ -1,5 +1,5 @@
 -- The points that wait during a search.
-use Rattle.std.proofs.Common.{◌≡◌, ◌≢◌, ℕ, zero, suc, ◌+◌, ◌*◌, ◌<◌, ◌≤◌, ◌^◌, ◌⊎◌, ℤ, pos, ◌+ℤ◌, ◌-ℤ◌, ◌≤ℤ◌, ◌<ℤ◌, List, [], ◌∷◌, ◌++◌, length, set, replicate, slice_get, slice_index_or, Option, Some, None, inl, inr, refl, sym, ap, subst, ◌∙◌, arith, get_or-set_same, get_or-set_other, length-set, Bool, true, false}
+use Rattle.std.proofs.Common.{◌≡◌, ◌≢◌, ℕ, zero, suc, ◌<◌, ◌≤◌, ◌^◌, ◌⊎◌, ℤ, pos, ◌+ℤ◌, ◌≤ℤ◌, ◌<ℤ◌, List, [], ◌∷◌, length, set, replicate, slice_get, slice_index_or, Option, Some, None, inl, inr, refl, sym, ap, subst, ◌∙◌, arith, get_or-set_same, get_or-set_other, length-set, false}
 use Rattle.std.specs.List.{Contains, All}
 use Rattle.std.specs.List.Sorted.{IsPermutation}
 use Rattle.std.specs.BinaryHeap.{IsHeap, IsUpperBound}
@@ -13,10 +13,10 @@ use Rattle.std.proofs.lemmas.Int.{ints}
 use Rattle.std.proofs.lemmas.Bool.{cases_eq}
 use Rattle.shortest_paths.specs.declared.edges.Edge.{Edge}
 use Rattle.shortest_paths.specs.declared.edges.Best.{Best}
-use Rattle.shortest_paths.specs.Walks.{Joins, IsWithin, HasNoNegativeCycle, number_of}
-use Rattle.shortest_paths.specs.Search.{found, AtMost, IsSearched, IsSettled, AreSettled, Improves, IsImprovement, room}
+use Rattle.shortest_paths.specs.Walks.{Joins, IsWithin, HasNoNegativeCycle}
+use Rattle.shortest_paths.specs.Search.{found, IsSearched, IsSettled, AreSettled, IsImprovement, room}
 use Rattle.shortest_paths.specs.Nearest.{Waiter, waiter, compare_waiters, Waits, AllWait, AllWaitBut, AreSettledBelow, AreWaiters}
-use Rattle.shortest_paths.proofs.WalkLemmas.{some_same, edge_at}
+use Rattle.shortest_paths.proofs.WalkLemmas.{some_same}
 use Rattle.shortest_paths.proofs.StepLemmas.{AtMost-weaker, NoDearer, no_dearer', not_tail, IsSearched-step}
 use Rattle.shortest_paths.proofs.EndLemmas.{found_within}
 use Rattle.shortest_paths.proofs.FinalLemmas.{room_falls}

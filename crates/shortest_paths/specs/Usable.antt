@@ -1,5 +1,5 @@
 -- Edges of which some have a limit: how much may still pass there.
-use Rattle.std.specs.Prelude.{◌≡◌, ℕ, zero, suc, ◌-◌, ◌==◌, ℤ, pos, List, [], ◌∷◌, length, if◌then◌else◌}
+use Rattle.std.specs.Prelude.{ℕ, zero, suc, ◌-◌, ◌==◌, pos, List, [], ◌∷◌, length, if◌then◌else◌}
 use Rattle.shortest_paths.specs.declared.edges.Edge.{Edge}
 
 -- An edge of limit 0 leads nowhere: in its place stands a loop at its tail that costs nothing.

@@ -1,4 +1,4 @@
-use Rattle.std.proofs.Common.{◌≡◌, sym, subst}
+use Rattle.std.proofs.Common.{sym, subst}
 use Rattle.shortest_paths.specs.Nearest.{IsLinked}
 use Rattle.min_cost_flow.proofs.augment.augment.Goals as goal
 

@@ -1,7 +1,6 @@
 use Rattle.std.proofs.Common.{◌≡◌, ◌<◌, ◌≤◌, pos, neg_ℤ, ◌+ℤ◌, ◌-ℤ◌, ◌≤ℤ◌, set, sym, subst, arith, w64}
 use Rattle.std.proofs.lemmas.Int.{ints, fits_signed_from_abs}
 use Rattle.shortest_paths.specs.Walks.{number_of}
-use Rattle.min_cost_flow.specs.Search.{potential_of}
 use Rattle.min_cost_flow.specs.Solve.{IsMeeting, wanted}
 use Rattle.min_cost_flow.proofs.SolveLemmas.{within_needs_of, most_some, wanted_falls, room_for, fits, IsMeeting-next}
 use Rattle.min_cost_flow.proofs.augment.augment_reached.Goals as goal

@@ -1,8 +1,7 @@
-use Rattle.std.proofs.Common.{◌≡◌, ◌≢◌, ℕ, ◌<◌, ◌≤◌, ◌^◌, ℤ, pos, List, length, Some, sym, ap, subst, ◌∙◌, arith, slice_get}
+use Rattle.std.proofs.Common.{ℕ, ◌<◌, ◌^◌, List, length, sym, ap, subst, ◌∙◌, arith}
 use Rattle.std.specs.List.{All}
-use Rattle.std.proofs.lemmas.Int.{ints}
 use Rattle.shortest_paths.specs.declared.edges.Edge.{Edge}
-use Rattle.shortest_paths.specs.Walks.{IsWithin, Joins, Reaches, EndsLeast, ClimbsIn, number_of}
+use Rattle.shortest_paths.specs.Walks.{IsWithin, Joins, Reaches, EndsLeast, ClimbsIn}
 use Rattle.shortest_paths.specs.Leaving.{IsLeaving}
 use Rattle.shortest_paths.specs.Usable.{usable}
 use Rattle.shortest_paths.specs.Nearest.{Permits}

@@ -1,11 +1,9 @@
-use Rattle.std.proofs.Common.{◌≡◌, ◌<◌, ◌-ℤ◌, pos, length, set, replicate, Some, None, sym, ap, subst, ◌∙◌, refl, arith, get_or-set_same}
+use Rattle.std.proofs.Common.{pos, length, refl, arith}
 use Rattle.std.specs.BinaryHeap.{heap_items}
 use Rattle.std.proofs.lemmas.Int.{ints}
-use Rattle.std.proofs.lemmas.List.Elements.{All-cons, All-nil}
+use Rattle.std.proofs.lemmas.List.Elements.{All-cons}
 use Rattle.std.proofs.lemmas.List.Sorted.{All-permutation}
-use Rattle.shortest_paths.specs.Walks.{number_of}
-use Rattle.shortest_paths.specs.Search.{found}
-use Rattle.shortest_paths.specs.Nearest.{Waiter, waiter, IsWaiter}
+use Rattle.shortest_paths.specs.Nearest.{waiter, IsWaiter}
 use Rattle.shortest_paths.proofs.WaitLemmas.{joined_waits, first_found, no_waiters, no_waiters_in_order}
 use Rattle.shortest_paths.proofs.heap.begin.Goals as goal
 

@@ -1,4 +1,4 @@
-use Rattle.std.proofs.Common.{◌≡◌, ℕ, ◌<◌, ◌≤◌, ◌+◌, ◌+ℤ◌, ◌^◌, ℤ, pos, length, slice_index_or, None, inl, inr, to_z, of_z, w64, sym, ap, subst, ◌∙◌, arith}
+use Rattle.std.proofs.Common.{◌+ℤ◌, ◌^◌, slice_index_or, None, inl, inr, to_z, of_z, w64, sym, subst, ◌∙◌, arith}
 use Rattle.std.proofs.lemmas.Bool.{cases_eq}
 use Rattle.shortest_paths.specs.Walks.{number_of, IsWithin}
 use Rattle.shortest_paths.specs.Search.{found}

@@ -1,4 +1,4 @@
-use Rattle.std.proofs.Common.{◌≡◌, ℕ, ◌<◌, ◌≤◌, ◌+ℤ◌, length, slice_index_or, None}
+use Rattle.std.proofs.Common.{◌≡◌, ℕ, ◌<◌, ◌≤◌, ◌+ℤ◌, slice_index_or, None}
 use Rattle.shortest_paths.specs.Walks.{number_of}
 use Rattle.shortest_paths.specs.Search.{found}
 use Rattle.shortest_paths.specs.Nearest.{IsCutAt}

@@ -1,4 +1,4 @@
-use Rattle.std.proofs.Common.{◌≡◌, ℕ, ◌<◌, ◌≤◌, ◌+◌, ◌+ℤ◌, ◌^◌, ℤ, pos, length, slice_index_or, set, None, inl, inr, sym, ap, subst, ◌∙◌, arith, get_or-set_same, get_or-set_other}
+use Rattle.std.proofs.Common.{◌+◌, ◌+ℤ◌, ◌^◌, pos, slice_index_or, set, None, inl, inr, sym, ap, subst, ◌∙◌, arith, get_or-set_same}
 use Rattle.std.proofs.lemmas.Int.{ints}
 use Rattle.shortest_paths.specs.Walks.{number_of, IsWithin}
 use Rattle.shortest_paths.specs.Search.{found}

@@ -1,4 +1,4 @@
-use Rattle.std.proofs.Common.{◌≡◌, ◌+◌, ◌++◌, length, set, replicate, drop, None, sym, ap, subst, ◌∙◌, arith, add-one}
+use Rattle.std.proofs.Common.{◌≡◌, ◌++◌, length, set, replicate, drop, None, sym, ap, ◌∙◌, arith, add-one}
 use Rattle.shortest_paths.proofs.FillLemmas.{fill_next, fill_end}
 use Rattle.shortest_paths.proofs.heap.forget.Goals as goal
 

@@ -1,7 +1,5 @@
-use Rattle.std.proofs.Common.{◌≡◌, ◌≢◌, ℕ, ◌<◌, ◌-◌, pos, List, [], length, Option, Some, None, refl, sym, ap, subst, ◌∙◌, arith, slice_get}
-use Rattle.shortest_paths.specs.declared.edges.Edge.{Edge}
+use Rattle.std.proofs.Common.{◌≡◌, ℕ, ◌<◌, [], Some, None, refl, sym, subst, ◌∙◌, arith, slice_get}
 use Rattle.shortest_paths.specs.Walks.{Reaches, IsLeastCost, EndsLeast, ClimbsIn, number_of}
-use Rattle.shortest_paths.specs.Usable.{usable}
 use Rattle.shortest_paths.specs.Nearest.{Permits}
 use Rattle.shortest_paths.proofs.UsableLemmas.{usable_unlimited}
 use Rattle.shortest_paths.proofs.WholeLemmas.{permits_zero, never_stopped, whole_tree_at, whole_least, whole_none_at}

@@ -1,16 +1,12 @@
-use Rattle.std.proofs.Common.{◌≡◌, ℕ, ◌<◌, ◌∷◌, ◌-ℤ◌, ◌+ℤ◌, length, Some, None, IsSome, IsTrue, refl, sym, ap, subst, ◌∙◌, inl, arith}
-use Rattle.std.specs.List.{All}
-use Rattle.std.specs.List.Sorted.{IsPermutation}
+use Rattle.std.proofs.Common.{◌+ℤ◌, length, Some, IsSome, refl, sym, subst, ◌∙◌, inl, arith}
 use Rattle.std.specs.BinaryHeap.{heap_items}
 use Rattle.std.proofs.lemmas.Int.{ints}
 use Rattle.std.proofs.lemmas.List.Elements.{All-contains, All-cons}
 use Rattle.std.proofs.lemmas.List.Sorted.{All-permutation}
 use Rattle.shortest_paths.specs.declared.edges.Edge.{Edge}
-use Rattle.shortest_paths.specs.declared.edges.Best.{Best}
-use Rattle.shortest_paths.specs.Walks.{Joins, number_of}
-use Rattle.shortest_paths.specs.Search.{IsImprovement, IsSettled}
+use Rattle.shortest_paths.specs.Walks.{Joins}
 use Rattle.shortest_paths.specs.Usable.{usable}
-use Rattle.shortest_paths.specs.Nearest.{Waiter, waiter, Waits, IsWaiter}
+use Rattle.shortest_paths.specs.Nearest.{waiter, Waits, IsWaiter}
 use Rattle.shortest_paths.proofs.WalkLemmas.{some_same, edge_at}
 use Rattle.shortest_paths.proofs.EndLemmas.{found_within}
 use Rattle.shortest_paths.proofs.WaitLemmas.{improved, at_head, same_length, improved_room, waits_kept, improved_settled}

@@ -1,9 +1,8 @@
-use Rattle.std.proofs.Common.{◌≡◌, ℕ, ◌≤◌, length, slice_get, Some}
+use Rattle.std.proofs.Common.{ℕ, ◌≤◌, length}
 use Rattle.std.specs.BinaryHeap.{heap_items, heap_len}
-use Rattle.shortest_paths.specs.declared.edges.Edge.{Edge}
 use Rattle.shortest_paths.specs.Usable.{usable}
 use Rattle.shortest_paths.specs.Leaving.{IsLatest}
-use Rattle.shortest_paths.specs.Nearest.{IsRelaxed, Waits}
+use Rattle.shortest_paths.specs.Nearest.{IsRelaxed}
 use Rattle.shortest_paths.proofs.TurnLemmas.{steps_left, IsDoneFrom}
 use Rattle.shortest_paths.proofs.heap.relax_from.Given as goal
 

@@ -1,6 +1,5 @@
-use Rattle.std.proofs.Common.{◌≡◌, ℕ, ◌^◌, pos, length, set, replicate, Some, None, sym, ap, subst, ◌∙◌, arith}
+use Rattle.std.proofs.Common.{◌^◌, length, sym, subst, ◌∙◌, arith}
 use Rattle.std.specs.BinaryHeap.{heap_items}
-use Rattle.shortest_paths.specs.declared.edges.Best.{Best}
 use Rattle.shortest_paths.specs.Walks.{IsWithin}
 use Rattle.shortest_paths.specs.Search.{IsSearched}
 use Rattle.shortest_paths.specs.Usable.{usable}

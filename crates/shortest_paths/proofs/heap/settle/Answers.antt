@@ -1,12 +1,12 @@
-use Rattle.std.proofs.Common.{◌≡◌, ℕ, ◌<◌, ◌+◌, ◌*◌, ◌-ℤ◌, length, pos, Some, None, inl, sym, ap, subst, ◌∙◌, arith}
-use Rattle.std.specs.BinaryHeap.{heap_items, heap_len}
+use Rattle.std.proofs.Common.{◌-ℤ◌, length, sym, ap, subst, ◌∙◌, arith}
+use Rattle.std.specs.BinaryHeap.{heap_items}
 use Rattle.std.proofs.lemmas.List.Elements.{All-head, All-tail}
 use Rattle.std.proofs.lemmas.List.Sorted.{All-permutation}
 use Rattle.shortest_paths.specs.Walks.{number_of}
 use Rattle.shortest_paths.specs.Usable.{usable}
-use Rattle.shortest_paths.specs.Nearest.{Waiter, IsWaiter, AreWaiters, AreSettledBelow}
+use Rattle.shortest_paths.specs.Nearest.{IsWaiter, AreWaiters, AreSettledBelow}
 use Rattle.shortest_paths.proofs.StopLemmas.{read_limit}
-use Rattle.shortest_paths.proofs.WaitLemmas.{taken, taken_late, settled_where_none_waits, settled_below}
+use Rattle.shortest_paths.proofs.WaitLemmas.{taken, taken_late, settled_below}
 use Rattle.shortest_paths.proofs.heap.settle.Goals as goal
 
 pub returns-then-is_enough-clause-settled : goal.returns-then-is_enough-clause-settled

@@ -1,12 +1,11 @@
-use Rattle.std.proofs.Common.{◌≡◌, ◌≢◌, ℕ, ◌<◌, ◌^◌, ℤ, pos, ◌<ℤ◌, List, length, Option, Some, None, sym, ap, subst, ◌∙◌, arith, slice_get}
+use Rattle.std.proofs.Common.{◌≢◌, ℕ, ◌<◌, ◌^◌, pos, ◌<ℤ◌, length, sym, ap, subst, ◌∙◌, arith}
 use Rattle.std.specs.List.{All}
 use Rattle.std.specs.Option.{MatchOption}
 use Rattle.std.proofs.lemmas.Int.{ints}
 use Rattle.shortest_paths.specs.declared.edges.Edge.{Edge}
-use Rattle.shortest_paths.specs.Walks.{IsWithin, Joins, Reaches, EndsLeast, ClimbsIn, number_of}
-use Rattle.shortest_paths.specs.Leaving.{IsLeaving}
+use Rattle.shortest_paths.specs.Walks.{IsWithin, Joins, number_of}
 use Rattle.shortest_paths.specs.Usable.{usable}
-use Rattle.shortest_paths.specs.Nearest.{Permits, AreSmall, IsLinked}
+use Rattle.shortest_paths.specs.Nearest.{IsLinked}
 use Rattle.shortest_paths.proofs.UsableLemmas.{usable_all}
 use Rattle.shortest_paths.proofs.WalkLemmas.{no_cycle_from_potentials}
 use Rattle.shortest_paths.proofs.FillLemmas.{lent_back}

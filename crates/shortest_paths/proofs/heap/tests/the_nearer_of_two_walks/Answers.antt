@@ -1,6 +1,4 @@
-use Rattle.std.proofs.Common.{◌≡◌, ℕ, ◌<◌, ◌^◌, pos, ◌≤ℤ◌, zero, suc, [], ◌∷◌, sym, subst, arith}
-use Rattle.std.specs.List.{All}
-use Rattle.shortest_paths.specs.declared.edges.Edge.{Edge}
+use Rattle.std.proofs.Common.{◌≡◌, ℕ, ◌<◌, [], ◌∷◌, sym, subst}
 use Rattle.shortest_paths.specs.Walks.{Reaches}
 use Rattle.shortest_paths.proofs.Examples.{two_walks, two_walks_are_reached}
 use Rattle.shortest_paths.proofs.heap.tests.the_nearer_of_two_walks.Goals as goal
