@@ -24,7 +24,12 @@ fn wire(source: u32, uid: u32) -> Connection
 }
 
 /// Draws the sources of a node among the channels of the nodes before it, and connects them.
-pub(crate) fn connect(draws: &mut Draws, kind: &Kind, uid: u32, connections: &mut List<Connection>) -> Result<(), AllocError>
+pub(crate) fn connect(
+    draws: &mut Draws,
+    kind: &Kind,
+    uid: u32,
+    connections: &mut List<Connection>,
+) -> Result<(), AllocError>
     requires { 3 ≤ uid }
     ensures wires { OnOk result (connections.new ≡ connections.old ++ wires_into kind.now uid draws.old.state) }
     ensures state { OnOk result (draws.new.state ≡ stepped (sources kind.now) draws.old.state) }
@@ -53,11 +58,17 @@ fn unread(alloc: Global, connections: &[Connection], nodes: u32) -> Result<Vec<u
     ensures { IfOk result (λ v. v.items ≡ unread connections.now nodes) }
 {
     let later = 3..nodes + 1;
-    later.filter(|uid| !is_read(connections, *uid)).collect(alloc)
+    later
+        .filter(|uid| !is_read(connections, *uid))
+        .collect(alloc)
 }
 
 /// Leads each node that no connection leaves to the output node, by turns to its two channels.
-pub(crate) fn connect_ends(alloc: Global, nodes: u32, connections: &mut List<Connection>) -> Result<(), AllocError>
+pub(crate) fn connect_ends(
+    alloc: Global,
+    nodes: u32,
+    connections: &mut List<Connection>,
+) -> Result<(), AllocError>
     requires { (3 ≤ nodes) × (nodes ≤ 512) }
     ensures { OnOk result (connections.new ≡ with_endings connections.old nodes) }
 {

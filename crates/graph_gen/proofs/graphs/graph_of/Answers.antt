@@ -1,5 +1,7 @@
 -- The graph, node by node.
-use Rattle.std.proofs.Common.{◌≡◌, ◌+◌, ◌-◌, ap, arith, ◌∙◌}
+use Rattle.std.proofs.Common.{◌≡◌, ◌+◌, ◌-◌, ap, arith, sym, subst, ◌∙◌}
+use Rattle.graph_model.specs.Sound.{IsSound}
+use Rattle.graph_gen.proofs.Soundness.{generated_is_sound}
 use Rattle.graph_gen.specs.Generated.{generated, with_endings}
 use Rattle.graph_gen.proofs.Steps.{one_more_node, more_wires, all_nodes, all_wires, whole_graph}
 use Rattle.graph_gen.proofs.graphs.graph_of.Goals as goal
@@ -20,3 +22,8 @@ returns-clause-graph c =
     whole_graph (record { nodes = c.loop-uid.graph.nodes; connections = c.connect_ends.new.connections }) (generated c.args.seed c.args.nodes)
     (all_nodes _ _ _ _ _ none c.loop-uid.invariant.nodes)
     (c.in_ok-connect_ends.ensures ∙ ap (λ cs. with_endings cs c.args.nodes) (all_wires _ _ _ _ _ none c.loop-uid.invariant.wires))
+
+pub returns-clause-sound : goal.returns-clause-sound
+returns-clause-sound c =
+    let most = c.requires.nodes in
+    subst IsSound (sym (returns-clause-graph c)) (generated_is_sound c.args.seed c.args.nodes most.0 most.1)
