@@ -1,5 +1,5 @@
 -- What each kind that is drawn keeps to.
-use Rattle.std.proofs.Common.{◌≡◌, ℕ, ◌+◌, ◌*◌, ◌%◌, ◌/◌, ◌^◌, ◌-◌, ◌<◌, ◌≤◌, List, [], ◌∷◌, length, map, get_or, pos, true, false, refl, arith}
+use Rattle.std.proofs.Common.{◌≡◌, ℕ, ◌+◌, ◌*◌, ◌^◌, ◌-◌, ◌<◌, ◌≤◌, List, [], ◌∷◌, map, pos, false, refl, arith}
 use Rattle.std.specs.Prelude.{unsigned_abs, min}
 use Rattle.std.specs.List.{All, AllByRecursion}
 use Rattle.std.proofs.Math.Nat.{mul-le-mul}
@@ -8,9 +8,9 @@ use Rattle.graph_model.specs.Kinds.{ins_of, outs_of, latency_of, cells_of}
 use Rattle.graph_model.specs.Ranges.{HasRange}
 use Rattle.graph_model.specs.Graphs.{is_input, is_output}
 use Rattle.graph_model.specs.Rounding.{rounded_nat}
-use Rattle.graph_model.specs.Bounds.{weight, out_bounds}
+use Rattle.graph_model.specs.Bounds.{out_bounds}
 use Rattle.graph_model.specs.declared.kind.Kind.{Kind}
-use Rattle.graph_model.specs.declared.kind.Kind.TheVariants.{Input, Output, Gain, Fir, Biquad, Limiter, Delay, Insert}
+use Rattle.graph_model.specs.declared.kind.Kind.TheVariants.{Gain, Fir, Biquad, Limiter, Delay, Insert}
 use Rattle.graph_model.proofs.RoundingLaws.{rounded_nat-le}
 use Rattle.graph_gen.specs.Draws.{next, drawn}
 use Rattle.graph_gen.specs.Generated.{kind_drawn, kinds_drawn, sources}

@@ -1,20 +1,18 @@
 -- Every generated graph is sound.
-use Rattle.std.proofs.Common.{◌≡◌, ℕ, zero, suc, ◌+◌, ◌-◌, ◌*◌, ◌%◌, ◌^◌, ◌<◌, ◌≤◌, ◌==◌, ◌&&◌, List, [], ◌∷◌, ◌++◌, length, map, take, get_or, Bool, true, false, cond, not, Option, Some, None, inl, inr, refl, sym, ap, subst, ◌∙◌, length-append, arith}
+use Rattle.std.proofs.Common.{◌≡◌, ℕ, zero, suc, ◌+◌, ◌-◌, ◌*◌, ◌^◌, ◌<◌, ◌≤◌, ◌==◌, List, ◌∷◌, ◌++◌, length, map, take, get_or, Bool, true, false, cond, not, Option, Some, None, inl, inr, refl, sym, ap, subst, ◌∙◌, length-append, arith}
 use Rattle.std.specs.Prelude.{◌≢◌, AllPairs, is_some, sum_by, count_by}
-use Rattle.std.specs.List.{All, Contains, filter, find, list_any, range_with_len}
+use Rattle.std.specs.List.{All, Contains, find, list_any, range_with_len}
 use Rattle.std.proofs.Math.Nat.{mul-le-mul, mul-le-mul_right}
 use Rattle.std.proofs.lemmas.Bool.{cases_lt, cases_eq, eqb-true}
-use Rattle.std.proofs.lemmas.Bool.Decides.{nat_tests}
 use Rattle.std.proofs.lemmas.List.{get_or-take, get_or_default, get_or_past, length-take}
 use Rattle.std.proofs.lemmas.List.Elements.{All-nil, All-cons, All-append, All-weaker, All-replicate, All-map, All-contains, recursion_from_All}
 use Rattle.std.proofs.lemmas.List.Kept.{AllPairs-cons}
 use Rattle.std.proofs.lemmas.List.Sums.{sum_by-cons, sum_by-le, length-filter, count_by-le-length}
 use Rattle.graph_model.specs.Kinds.{ins_of, outs_of, latency_of, cells_of}
-use Rattle.graph_model.specs.Ranges.{IsInRange}
 use Rattle.graph_model.specs.Members.{bad_member}
 use Rattle.graph_model.specs.Graphs.{IsRanked, IsNode, node_named, or_zero, ins_at, outs_at, latency_at, connections_to, is_input, is_output}
 use Rattle.graph_model.specs.Paths.{live_connections, latency_of_graph, is_live}
-use Rattle.graph_model.specs.Checks.{IsConnection, AreConnections}
+use Rattle.graph_model.specs.Checks.{AreConnections}
 use Rattle.graph_model.specs.Bounds.{bounds, bounds_within, in_bounds, given_bounds, IsBounded}
 use Rattle.graph_model.specs.Sound.{IsSound}
 use Rattle.graph_model.specs.declared.kind.Kind.{Kind}
@@ -28,11 +26,11 @@ use Rattle.graph_model.proofs.RangeLaws.{ranges_are_tested}
 use Rattle.graph_model.proofs.RankLaws.{ranked_is_acyclic, node_in}
 use Rattle.graph_model.proofs.ReachLaws.{reach_below}
 use Rattle.graph_model.proofs.NodeFacts.{find-all}
-use Rattle.graph_gen.specs.Generated.{sources, nodes_drawn, wires_drawn, ending, unread, generated}
-use Rattle.graph_gen.specs.Laws.{GeneratedIsSound}
+use Rattle.graph_gen.specs.Generated.{sources, nodes_drawn, wires_drawn, ending, unread}
+use Rattle.graph_gen.specs.Laws.{GeneratedIsSound, GeneratedIsAsWanted}
 use Rattle.graph_gen.proofs.KindFacts.{IsTame, IsGentle}
 use Rattle.graph_gen.proofs.SourceFacts.{IsFrom, IsWire, IsEnding, all_wires, all_pairs, few_wires, all_endings, endings_differ, few_endings}
-use Rattle.graph_gen.proofs.LookUps.{node_of, IsDrawn, all_drawn, length-drawn, other_uids, uids_differ, drawn_there, leads_to, none_kept, HasFewSources, few_sources}
+use Rattle.graph_gen.proofs.LookUps.{node_of, IsDrawn, all_drawn, length-drawn, other_uids, uids_differ, drawn_there, leads_to, none_kept, few_sources}
 
 -- ---- lists
 at_most : (b : ℕ) (bs : List ℕ) (k : ℕ) → All (λ n. n ≤ b) bs → get_or bs k 0 ≤ b
@@ -366,3 +364,6 @@ generated_is_sound seed nodes some most =
     let unread_by : ℕ → Bool = λ i. not (list_any (λ c. c.src.0 == i) (wires_drawn seed 3 (nodes - 2))) in
     sound seed (nodes - 2) (map ending (unread (wires_drawn seed 3 (nodes - 2)) nodes)) (omega arith)
     (all_endings unread_by (nodes - 2)) (endings_differ unread_by (nodes - 2)) (few_endings unread_by (nodes - 2))
+
+pub generated_is_as_wanted : GeneratedIsAsWanted
+generated_is_as_wanted seed nodes some = ((let e = length-drawn seed 3 (nodes - 2) in omega arith), refl, refl)

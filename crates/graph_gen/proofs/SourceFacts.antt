@@ -1,6 +1,6 @@
 -- What each connection of a generated graph keeps to, that no two are equal, and how many there are.
-use Rattle.std.proofs.Common.{◌≡◌, ℕ, zero, suc, ◌+◌, ◌-◌, ◌*◌, ◌%◌, ◌/◌, ◌^◌, ◌<◌, ◌≤◌, ◌==◌, List, [], ◌∷◌, ◌++◌, length, map, get_or, Bool, true, false, cond, not, ltb, eqb, ◌⊎◌, inl, inr, refl, sym, ap, subst, ◌∙◌, append_assoc, length-append, arith}
-use Rattle.std.specs.Prelude.{◌≢◌, AllPairs, nat_lt}
+use Rattle.std.proofs.Common.{◌≡◌, ℕ, zero, suc, ◌+◌, ◌-◌, ◌*◌, ◌%◌, ◌/◌, ◌^◌, ◌<◌, ◌≤◌, ◌==◌, List, [], ◌∷◌, ◌++◌, length, map, Bool, true, cond, ◌⊎◌, inl, inr, refl, sym, ap, subst, ◌∙◌, append_assoc, length-append, arith}
+use Rattle.std.specs.Prelude.{◌≢◌, AllPairs}
 use Rattle.std.specs.List.{All, filter, range_with_len}
 use Rattle.std.proofs.lemmas.Bool.{cases_lt, cases_eq}
 use Rattle.std.proofs.lemmas.Bool.Decides.{nat_tests}
@@ -11,12 +11,12 @@ use Rattle.std.proofs.lemmas.List.FromFn.{length-range_with_len, get_or-range_wi
 use Rattle.graph_model.specs.declared.kind.Kind.{Kind}
 use Rattle.graph_model.specs.declared.kind.Kind.TheVariants.{Gain}
 use Rattle.graph_model.specs.declared.graph.Connection.{Connection}
-use Rattle.graph_model.proofs.Common.{by_lt, not_same}
+use Rattle.graph_model.proofs.Common.{not_same}
 use Rattle.std.proofs.lemmas.Nat.{mod_below}
 use Rattle.std.proofs.lemmas.List.Sums.{length-filter, count_by-le-length}
 use Rattle.graph_gen.proofs.KindFacts.{drawn_tame}
 use Rattle.graph_gen.specs.Draws.{next, drawn}
-use Rattle.graph_gen.specs.Generated.{kind_drawn, past_kind, past_node, sources, wire, wires_from, wires_into, wires_drawn, ending, unread, with_endings}
+use Rattle.graph_gen.specs.Generated.{kind_drawn, past_kind, past_node, sources, wire, wires_from, wires_into, wires_drawn, ending}
 
 -- ---- one connection
 -- from a channel of node 1, or from channel 0 of a node below `top` that is none of the ends

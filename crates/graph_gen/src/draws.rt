@@ -27,8 +27,8 @@ impl Draws {
         ensures drawn { result ≡ drawn self.old.state k }
         ensures below { result < k }
     {
-        let state = self.step();
-        (state >> 33) as u32 % k
+        let drawn = self.step();
+        (drawn >> 33) as u32 % k
     }
 
     /// A sample of 16 bits, scaled to 32.

@@ -1,6 +1,5 @@
 -- What stands and what is still to come are the nodes, and the connections into them.
-use Rattle.std.proofs.Common.{◌≡◌, ◌-◌, ◌++◌, ◌∷◌}
-use Rattle.graph_model.specs.declared.kind.Kind.TheVariants.{Input, Output}
+use Rattle.std.proofs.Common.{◌≡◌, ◌-◌, ◌++◌}
 use Rattle.graph_gen.specs.Generated.{nodes_drawn, wires_drawn, generated}
 use Rattle.graph_gen.proofs.graphs.graph_of.Given as goal
 
