@@ -13,14 +13,11 @@ use Rattle.graph_model.specs.declared.graph.Node.{Node}
 use Rattle.graph_model.specs.declared.graph.Connection.{Connection}
 use Rattle.graph_model.proofs.Common.{not_same}
 use Rattle.graph_gen.specs.Draws.{next, drawn}
-use Rattle.graph_gen.specs.Generated.{kind_drawn, past_kind, past_node, node_drawn, sources, wires_into, nodes_drawn, wires_drawn}
+use Rattle.graph_gen.specs.Generated.{node_of, kind_drawn, past_kind, past_node, node_drawn, sources, connections_of, nodes_drawn, connections_drawn}
 use Rattle.graph_gen.proofs.KindFacts.{IsTame, drawn_tame}
 use Rattle.graph_gen.proofs.SourceFacts.{all_into, few_into, elsewhere}
 
 -- ---- the nodes
-abbrev pub node_of : ℕ → Kind → Node
-node_of v kind = record { uid = record { 0 = v }; kind = kind }
-
 pub record IsDrawn (i top : ℕ) (m : Node) : Type 0 where
   pub from : i ≤ m.uid.0
   pub below : m.uid.0 < top
@@ -105,8 +102,8 @@ pub record HasFewSources (i : ℕ) (cs : List Connection) (m : Node) : Type 0 wh
   pub few : (channel : ℕ) → length (filter (leads_to m.uid.0 channel) cs) ≤ sources m.kind
 
 pub few_sources : (s i n : ℕ) (tail : List Connection) → 3 ≤ i → All (λ c. c.dst.0 ≡ 2) tail
-    → All (HasFewSources i (wires_drawn s i n ++ tail)) (nodes_drawn s i n)
-unfolding nodes_drawn wires_drawn
+    → All (HasFewSources i (connections_drawn s i n ++ tail)) (nodes_drawn s i n)
+unfolding nodes_drawn connections_drawn
 few_sources s i zero tail later to_output = All-nil (HasFewSources i tail)
 few_sources s i (suc n) tail later to_output =
     All-cons (HasFewSources i ((here ++ rest) ++ tail)) (node_drawn s i) (nodes_drawn (past_node s) (i + 1) n)
@@ -134,7 +131,7 @@ few_sources s i (suc n) tail later to_output =
     (nodes_drawn (past_node s) (i + 1) n) (few_sources (past_node s) (i + 1) n tail (omega arith) to_output))
   where
     here : List Connection
-    here = wires_into (kind_drawn s) i (past_kind s)
+    here = connections_of (kind_drawn s) i (past_kind s)
 
     rest : List Connection
-    rest = wires_drawn (past_node s) (i + 1) n
+    rest = connections_drawn (past_node s) (i + 1) n

@@ -26,11 +26,11 @@ use Rattle.graph_model.proofs.RangeLaws.{ranges_are_tested}
 use Rattle.graph_model.proofs.RankLaws.{ranked_is_acyclic, node_in}
 use Rattle.graph_model.proofs.ReachLaws.{reach_below}
 use Rattle.graph_model.proofs.NodeFacts.{find-all}
-use Rattle.graph_gen.specs.Generated.{sources, nodes_drawn, wires_drawn, ending, unread}
+use Rattle.graph_gen.specs.Generated.{node_of, sources, nodes_drawn, connections_drawn, ending, unread}
 use Rattle.graph_gen.specs.Laws.{GeneratedIsSound, GeneratedIsAsWanted}
 use Rattle.graph_gen.proofs.KindFacts.{IsTame, IsGentle}
-use Rattle.graph_gen.proofs.SourceFacts.{IsFrom, IsWire, IsEnding, all_wires, all_pairs, few_wires, all_endings, endings_differ, few_endings}
-use Rattle.graph_gen.proofs.LookUps.{node_of, IsDrawn, all_drawn, length-drawn, other_uids, uids_differ, drawn_there, leads_to, none_kept, few_sources}
+use Rattle.graph_gen.proofs.SourceFacts.{IsFrom, IsOnward, IsEnding, all_onward, all_pairs, few_drawn, all_endings, endings_differ, few_endings}
+use Rattle.graph_gen.proofs.LookUps.{IsDrawn, all_drawn, length-drawn, other_uids, uids_differ, drawn_there, leads_to, none_kept, few_sources}
 
 -- ---- lists
 at_most : (b : ℕ) (bs : List ℕ) (k : ℕ) → All (λ n. n ≤ b) bs → get_or bs k 0 ≤ b
@@ -50,14 +50,14 @@ not_before cs k d pairs lt (j, within, at) =
 
 -- ---- the graph of some drawn nodes, with connections to its output node
 abbrev input : Node
-input = record { uid = record { 0 = 1 }; kind = Input 2 }
+input = node_of 1 (Input 2)
 
 abbrev output : Node
-output = record { uid = record { 0 = 2 }; kind = Output 2 }
+output = node_of 2 (Output 2)
 
 module _ (seed n : ℕ) (tail : List Connection) (few : n ≤ 510) (endings : All (IsEnding (3 + n)) tail) (differ : AllPairs (λ c d. c ≢ d) tail) (short : length tail ≤ n) where
   abbrev g : Graph
-  g = record { nodes = input ∷ output ∷ nodes_drawn seed 3 n; connections = wires_drawn seed 3 n ++ tail }
+  g = record { nodes = input ∷ output ∷ nodes_drawn seed 3 n; connections = connections_drawn seed 3 n ++ tail }
 
   to_output : All (λ c. c.dst.0 ≡ 2) tail
   to_output = All-weaker (IsEnding (3 + n)) (λ c. c.dst.0 ≡ 2) (λ c e. e.output) tail endings
@@ -69,7 +69,7 @@ module _ (seed n : ℕ) (tail : List Connection) (few : n ≤ 510) (endings : Al
   count = let e = length-drawn seed 3 n in omega arith
 
   few_connections : length g.connections ≤ 1530
-  few_connections = let w = few_wires seed 3 n in omega (arith, length-append (wires_drawn seed 3 n) tail)
+  few_connections = let w = few_drawn seed 3 n in omega (arith, length-append (connections_drawn seed 3 n) tail)
 
   -- ---- nodes by name
   named : (v : ℕ) → 3 ≤ v → v < 3 + n → (kind : Kind) × IsTame kind × (node_named g v ≡ Some (node_of v kind))
@@ -146,14 +146,14 @@ module _ (seed n : ℕ) (tail : List Connection) (few : n ≤ 510) (endings : Al
         | inr later ↦ from_later c.src.0 c.src_channel later.0 later.1 later.2
       ]
 
-  ends_of_wire : (c : Connection) → IsWire 3 (3 + n) c → HasEnds c
-  ends_of_wire c wire =
-      let source = source_of c wire.source in
-      let there = named c.dst.0 wire.from wire.below in
+  ends_of_onward : (c : Connection) → IsOnward 3 (3 + n) c → HasEnds c
+  ends_of_onward c on =
+      let source = source_of c on.source in
+      let there = named c.dst.0 on.from on.below in
       let ins = ap (or_zero ins_of) there.2 ∙ there.1.one_in in
-      let first = wire.channel in
-      let up = wire.rises in
-      let low = wire.from in
+      let first = on.channel in
+      let up = on.rises in
+      let low = on.from in
       let from = source.ranked in
       let to = rank_other c.dst.0 (λ e. absurd (omega arith)) in
       let other = source.other in
@@ -187,8 +187,8 @@ module _ (seed n : ℕ) (tail : List Connection) (few : n ≤ 510) (endings : Al
 
   all_ends : All HasEnds g.connections
   all_ends =
-      All-append HasEnds (wires_drawn seed 3 n) tail
-      (All-weaker (IsWire 3 (3 + n)) HasEnds ends_of_wire (wires_drawn seed 3 n) (all_wires seed 3 n (3 + n) (omega arith) (omega arith)))
+      All-append HasEnds (connections_drawn seed 3 n) tail
+      (All-weaker (IsOnward 3 (3 + n)) HasEnds ends_of_onward (connections_drawn seed 3 n) (all_onward seed 3 n (3 + n) (omega arith) (omega arith)))
       (All-weaker (IsEnding (3 + n)) HasEnds ends_of_ending tail endings)
 
   -- ---- the shape
@@ -361,8 +361,8 @@ module _ (seed n : ℕ) (tail : List Connection) (few : n ≤ 510) (endings : Al
 
 pub generated_is_sound : GeneratedIsSound
 generated_is_sound seed nodes some most =
-    let unread_by : ℕ → Bool = λ i. not (list_any (λ c. c.src.0 == i) (wires_drawn seed 3 (nodes - 2))) in
-    sound seed (nodes - 2) (map ending (unread (wires_drawn seed 3 (nodes - 2)) nodes)) (omega arith)
+    let unread_by : ℕ → Bool = λ i. not (list_any (λ c. c.src.0 == i) (connections_drawn seed 3 (nodes - 2))) in
+    sound seed (nodes - 2) (map ending (unread (connections_drawn seed 3 (nodes - 2)) nodes)) (omega arith)
     (all_endings unread_by (nodes - 2)) (endings_differ unread_by (nodes - 2)) (few_endings unread_by (nodes - 2))
 
 pub generated_is_as_wanted : GeneratedIsAsWanted

@@ -6,7 +6,7 @@ use Rattle.graph_model.specs.declared.graph.Node.{Node}
 use Rattle.graph_model.specs.declared.graph.Connection.{Connection}
 use Rattle.graph_model.specs.declared.graph.Graph.{Graph}
 use Rattle.graph_gen.specs.Draws.{next, stepped, sample_drawn, samples_drawn}
-use Rattle.graph_gen.specs.Generated.{kind_drawn, sources, past_kind, past_node, node_drawn, wires_into, nodes_drawn, wires_drawn}
+use Rattle.graph_gen.specs.Generated.{node_of, kind_drawn, sources, past_kind, past_node, node_drawn, connections_of, nodes_drawn, connections_drawn}
 
 -- the product may be cut before the sum is
 pub next_is : (s : ℕ) → (s * 6364136223846793005 % 18446744073709551616 + 1442695040888963407) % 18446744073709551616 ≡ next s
@@ -22,9 +22,6 @@ one_more_sample s n m t z xs ys whole d e less pushed h =
     ∙ append_assoc xs (sample_drawn s ∷ []) (samples_drawn (next s) m) ∙ ap (λ k. xs ++ samples_drawn s k) (sym less) ∙ h
 
 -- a step of the loop over the nodes: the kind is drawn, then the sources
-abbrev node_of : ℕ → Kind → Node
-node_of i kind = record { uid = record { 0 = i }; kind = kind }
-
 state_is : (s t u : ℕ) (kind : Kind) → kind ≡ kind_drawn s → t ≡ past_kind s → u ≡ stepped (sources kind) t → u ≡ past_node s
 state_is s t u kind k e f = f ∙ ap (λ d. stepped (sources d) t) k ∙ ap (stepped (sources (kind_drawn s))) e
 
@@ -38,24 +35,24 @@ one_more_node s i n m t u kind xs ys whole k e f less pushed h =
     ∙ append_assoc xs (node_drawn s i ∷ []) (nodes_drawn (past_node s) (i + 1) m)
     ∙ ap (λ l. xs ++ nodes_drawn s i l) (sym less) ∙ h
 
-pub more_wires : (s i n m t u : ℕ) (kind : Kind) (xs ys whole : List Connection)
+pub more_connections : (s i n m t u : ℕ) (kind : Kind) (xs ys whole : List Connection)
     → kind ≡ kind_drawn s → t ≡ past_kind s → u ≡ stepped (sources kind) t → n ≡ suc m
-    → ys ≡ xs ++ wires_into kind i t → xs ++ wires_drawn s i n ≡ whole → ys ++ wires_drawn u (i + 1) m ≡ whole
-unfolding wires_drawn
-more_wires s i n m t u kind xs ys whole k e f less pushed h =
-    ap (λ zs. zs ++ wires_drawn u (i + 1) m) (pushed ∙ ap (λ d. xs ++ wires_into d i t) k ∙ ap (λ v. xs ++ wires_into (kind_drawn s) i v) e)
-    ∙ ap (λ v. (xs ++ wires_into (kind_drawn s) i (past_kind s)) ++ wires_drawn v (i + 1) m) (state_is s t u kind k e f)
-    ∙ append_assoc xs (wires_into (kind_drawn s) i (past_kind s)) (wires_drawn (past_node s) (i + 1) m)
-    ∙ ap (λ l. xs ++ wires_drawn s i l) (sym less) ∙ h
+    → ys ≡ xs ++ connections_of kind i t → xs ++ connections_drawn s i n ≡ whole → ys ++ connections_drawn u (i + 1) m ≡ whole
+unfolding connections_drawn
+more_connections s i n m t u kind xs ys whole k e f less pushed h =
+    ap (λ zs. zs ++ connections_drawn u (i + 1) m) (pushed ∙ ap (λ d. xs ++ connections_of d i t) k ∙ ap (λ v. xs ++ connections_of (kind_drawn s) i v) e)
+    ∙ ap (λ v. (xs ++ connections_of (kind_drawn s) i (past_kind s)) ++ connections_drawn v (i + 1) m) (state_is s t u kind k e f)
+    ∙ append_assoc xs (connections_of (kind_drawn s) i (past_kind s)) (connections_drawn (past_node s) (i + 1) m)
+    ∙ ap (λ l. xs ++ connections_drawn s i l) (sym less) ∙ h
 
 -- at the end nothing is to come
 pub all_nodes : (s i n : ℕ) (xs whole : List Node) → n ≡ 0 → xs ++ nodes_drawn s i n ≡ whole → xs ≡ whole
 unfolding nodes_drawn
 all_nodes s i n xs whole e h = sym (append-nil xs) ∙ ap (λ k. xs ++ nodes_drawn s i k) (sym e) ∙ h
 
-pub all_wires : (s i n : ℕ) (xs whole : List Connection) → n ≡ 0 → xs ++ wires_drawn s i n ≡ whole → xs ≡ whole
-unfolding wires_drawn
-all_wires s i n xs whole e h = sym (append-nil xs) ∙ ap (λ k. xs ++ wires_drawn s i k) (sym e) ∙ h
+pub all_connections : (s i n : ℕ) (xs whole : List Connection) → n ≡ 0 → xs ++ connections_drawn s i n ≡ whole → xs ≡ whole
+unfolding connections_drawn
+all_connections s i n xs whole e h = sym (append-nil xs) ∙ ap (λ k. xs ++ connections_drawn s i k) (sym e) ∙ h
 
 pub whole_graph : (g h : Graph) → g.nodes ≡ h.nodes → g.connections ≡ h.connections → g ≡ h
 whole_graph g h p q = λ j. record { nodes = p j; connections = q j }

@@ -44,36 +44,39 @@ past_kind s = stepped (parameters (kind_drawn s)) (next s)
 abbrev pub past_node : ℕ → ℕ
 past_node s = stepped (sources (kind_drawn s)) (past_kind s)
 
-abbrev pub node_drawn : ℕ → ℕ → Node
-node_drawn s i = record { uid = record { 0 = i }; kind = kind_drawn s }
+abbrev pub node_of : ℕ → Kind → Node
+node_of i kind = record { uid = record { 0 = i }; kind = kind }
 
--- a connection from the source channel of number n to a channel of node v: sources 0 and 1 are the channels of node 1,
--- and source n is channel 0 of node n + 1
-abbrev pub wire : ℕ → ℕ → ℕ → Connection
-wire n v channel = record {
+abbrev pub node_drawn : ℕ → ℕ → Node
+node_drawn s i = node_of i (kind_drawn s)
+
+-- a connection from the source of number n to node i: sources 0 and 1 are the channels of node 1, and source n is that
+-- of node n + 1
+abbrev pub connection_from : ℕ → ℕ → Connection
+connection_from n i = record {
   src = record { 0 = (if nat_lt n 2 then 1 else n + 1) };
   src_channel = (if n == 1 then 1 else 0);
-  dst = record { 0 = v };
-  dst_channel = channel;
+  dst = record { 0 = i };
+  dst_channel = 0;
 }
 
 -- the connections into node i, from its sources a and, for a gain, b where it is another one
-abbrev pub wires_from : Kind → ℕ → ℕ → ℕ → List Connection
-wires_from (Gain channels gain) i a b = if b == a then wire a i 0 ∷ [] else wire a i 0 ∷ wire b i 0 ∷ []
-wires_from kind i a b = wire a i 0 ∷ []
+abbrev pub connections_from : Kind → ℕ → ℕ → ℕ → List Connection
+connections_from (Gain channels gain) i a b = if b == a then connection_from a i ∷ [] else connection_from a i ∷ connection_from b i ∷ []
+connections_from kind i a b = connection_from a i ∷ []
 
 -- the same, the sources drawn from state s
-abbrev pub wires_into : Kind → ℕ → ℕ → List Connection
-wires_into kind i s = wires_from kind i (drawn s (i - 1)) (drawn (next s) (i - 1))
+abbrev pub connections_of : Kind → ℕ → ℕ → List Connection
+connections_of kind i s = connections_from kind i (drawn s (i - 1)) (drawn (next s) (i - 1))
 
 -- so many nodes from node i on, and the connections into them
 unfoldable pub nodes_drawn : ℕ → ℕ → ℕ → List Node
 nodes_drawn s i zero = []
 nodes_drawn s i (suc n) = node_drawn s i ∷ nodes_drawn (past_node s) (i + 1) n
 
-unfoldable pub wires_drawn : ℕ → ℕ → ℕ → List Connection
-wires_drawn s i zero = []
-wires_drawn s i (suc n) = wires_into (kind_drawn s) i (past_kind s) ++ wires_drawn (past_node s) (i + 1) n
+unfoldable pub connections_drawn : ℕ → ℕ → ℕ → List Connection
+connections_drawn s i zero = []
+connections_drawn s i (suc n) = connections_of (kind_drawn s) i (past_kind s) ++ connections_drawn (past_node s) (i + 1) n
 
 -- the nodes from 3 on that no connection leaves, of as many nodes
 abbrev pub unread : List Connection → ℕ → List ℕ
@@ -88,6 +91,6 @@ with_endings cs nodes = cs ++ map ending (unread cs nodes)
 
 abbrev pub generated : ℕ → ℕ → Graph
 generated seed nodes = record {
-  nodes = record { uid = record { 0 = 1 }; kind = Input 2 } ∷ record { uid = record { 0 = 2 }; kind = Output 2 } ∷ nodes_drawn seed 3 (nodes - 2);
-  connections = with_endings (wires_drawn seed 3 (nodes - 2)) nodes;
+  nodes = node_of 1 (Input 2) ∷ node_of 2 (Output 2) ∷ nodes_drawn seed 3 (nodes - 2);
+  connections = with_endings (connections_drawn seed 3 (nodes - 2)) nodes;
 }

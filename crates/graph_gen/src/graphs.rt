@@ -5,7 +5,7 @@ ghost use Rattle.graph_model.specs.Sound.{IsSound};
 ghost use Rattle.graph_gen.specs.Generated.{kind_drawn, past_kind, generated};
 
 use crate::draws::Draws;
-use crate::wires::{connect, connect_ends};
+use crate::joining::{connect, connect_ends};
 use graph_model::{Graph, Kind, List, Node, Uid};
 use std::alloc::{AllocError, Global};
 
@@ -51,9 +51,9 @@ fn draw_kind(alloc: Global, draws: &mut Draws) -> Result<Kind, AllocError>
     }
 }
 
-/// A sound graph of so many nodes, with uids from 1 on. Node 1 is an input and node 2 an output of two channels; every
-/// other node has one channel, and a kind, parameters and sources that are drawn from the seed. Each source is among the
-/// nodes before it; what nobody reads goes to the output node. It fails only for want of memory.
+/// A sound graph of 3 to 512 nodes, with uids from 1 on. Node 1 is an input and node 2 an output of two channels; every
+/// other node has one channel, and a kind, parameters and sources that are drawn from the seed. Its sources are among
+/// the nodes before it; what nobody reads goes to the output node. It fails only for want of memory.
 pub fn graph_of(alloc: Global, seed: u64, nodes: u32) -> Result<Graph, AllocError>
     requires nodes { (3 ≤ nodes) × (nodes ≤ 512) }
     ensures graph { IfOk result (λ graph. graph ≡ generated seed nodes) }

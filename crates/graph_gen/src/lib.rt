@@ -12,9 +12,9 @@
 
 mod draws;
 mod graphs;
+mod joining;
 pub mod laws;
 mod samples;
-mod wires;
 
 pub use graphs::graph_of;
 pub use samples::samples_of;

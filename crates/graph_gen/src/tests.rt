@@ -1,5 +1,5 @@
-//! What no clause says: that the definitions are those that were meant. The values were found by hand and by a script of
-//! their own.
+//! What no clause says: that the definitions are those that were meant. The values were found by hand and by a script
+//! of their own.
 
 use crate::{graph_of, samples_of};
 use connections::check;

@@ -3,7 +3,7 @@
 ghost use Rattle.std.specs.Prelude.{◌≡◌, ◌==◌, ◌≤◌, ◌<◌, ◌+◌, ◌-◌, ◌++◌, not, IfOk, OnOk};
 ghost use Rattle.std.specs.List.{list_any};
 ghost use Rattle.graph_gen.specs.Draws.{stepped};
-ghost use Rattle.graph_gen.specs.Generated.{wire, wires_into, sources, unread, with_endings};
+ghost use Rattle.graph_gen.specs.Generated.{connection_from, connections_of, sources, unread, with_endings};
 
 use crate::draws::Draws;
 use graph_model::{Connection, Kind, List, Uid};
@@ -11,9 +11,9 @@ use std::alloc::{AllocError, Global};
 
 /// The connection from a source channel to channel 0 of a node. Sources 0 and 1 are the channels of node 1, and any
 /// other number is channel 0 of the node of the next number.
-fn wire(source: u32, uid: u32) -> Connection
+fn connection_from(source: u32, uid: u32) -> Connection
     requires { source < 4294967295 }
-    ensures { result ≡ wire source uid 0 }
+    ensures { result ≡ connection_from source uid }
 {
     Connection {
         src: Uid(if source < 2 { 1 } else { source + 1 }),
@@ -31,15 +31,15 @@ pub(crate) fn connect(
     connections: &mut List<Connection>,
 ) -> Result<(), AllocError>
     requires { 3 ≤ uid }
-    ensures wires { OnOk result (connections.new ≡ connections.old ++ wires_into kind.now uid draws.old.state) }
+    ensures connections { OnOk result (connections.new ≡ connections.old ++ connections_of kind.now uid draws.old.state) }
     ensures state { OnOk result (draws.new.state ≡ stepped (sources kind.now) draws.old.state) }
 {
     let first = draws.draw(uid - 1);
-    connections.push(wire(first, uid))?;
+    connections.push(connection_from(first, uid))?;
     if let Kind::Gain { .. } = kind {
         let second = draws.draw(uid - 1);
         if second != first {
-            connections.push(wire(second, uid))?;
+            connections.push(connection_from(second, uid))?;
         }
     }
     Ok(())
