@@ -1,16 +1,16 @@
 //! The least assignment of buffers to values.
 //!
-//! A value lives from the wave in which it is born to the one in which it dies, and two values may share a buffer where
-//! one follows the other: it is born after the other dies, or just there, by the node that alone reads it. [`assign`]
-//! gives each value a buffer. It goes over the lives in the order of their births, as linear scan register allocation
-//! does (Poletto and Sarkar, 1999): a value takes over a buffer in place where it can, or else takes one whose value died
-//! before, and only where there is neither a new one.
+//! A value lives from the wave in which it is born to the one in which it dies. Two values may share a buffer where
+//! one follows the other: it is born after the other dies, or just there, of the node that alone reads the other.
+//! [`assign`] gives each value a buffer. It goes over the lives in the order of their births, as register allocation by
+//! linear scan does (Poletto and Sarkar, Linear Scan Register Allocation, 1999): a value takes over a buffer in place
+//! where it can, or else takes one whose value died before, and a new one only where there is neither.
 //!
 //! It promises that no assignment of these lives has fewer buffers, that no wave needs more, and the first wave that
-//! needs them all. It fails only for want of memory, and its time does not depend on how long values live.
+//! needs them all. It fails only for want of memory. Its time does not depend on how long the values live.
 //!
-//! It stands on `plan_model` for lives, homes and needs, and for the law that a wave's need bounds the buffers of every
-//! assignment, and on `graph_model` for lists. It knows of no graph and of no schedule.
+//! It stands on `plan_model` for lives, homes and needs, and for the law that no assignment has fewer buffers than a
+//! wave needs, and on `graph_model` for lists. It knows of no graph and of no schedule.
 #![tactic(auto)]
 
 ghost use Rattle.std.specs.Prelude.{◌≡◌, ◌≤◌, ℕ, length, IfOk};
@@ -37,7 +37,7 @@ pub struct Homes {
     pub homes: List<Home>,
     /// How many buffers there are.
     pub channels: u32,
-    /// The index of the first wave that needs `channels` buffers.
+    /// The index of the first wave that needs `channels` buffers; 0 where there are no values.
     pub peak: u64,
 }
 

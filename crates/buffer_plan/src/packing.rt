@@ -1,9 +1,9 @@
 //! Values placed into buffers, one after another in the order of their births.
 
-ghost use Rattle.std.specs.Prelude.{◌≡◌, ◌<◌, ◌≤◌, [], ◌∷◌, ◌++◌, length, map, All, IfOk, OnOk, nat_lt, position};
+ghost use Rattle.std.specs.Prelude.{◌≡◌, ◌<◌, ◌≤◌, [], ◌∷◌, ◌++◌, length, All, IfOk, OnOk, nat_lt, position};
 ghost use Rattle.std.specs.List.Sorted.{IsPermutation};
 ghost use Rattle.plan_model.specs.Buffers.{is_freed};
-ghost use Rattle.buffer_plan.specs.Packed.{IsPacked, first_free};
+ghost use Rattle.buffer_plan.specs.Packed.{IsPacked, first_free, lives_in};
 
 use crate::orders::by_birth;
 use plan_model::Life;
@@ -27,7 +27,7 @@ pub(crate) struct Packing {
     pub(crate) peak: u32,
 }
 
-/// Whether a value dies where another is born, whose node alone reads it there.
+/// Whether a value dies where another is born, and that one's node alone reads it there.
 fn frees(held: &Life, life: &Life) -> bool
     ensures { result ≡ is_freed life.now.born life.now.uid.0 held.now }
 {
@@ -48,7 +48,7 @@ fn unused(holders: &[Life], life: &Life) -> Option<usize>
     holders.iter().position(|held| held.dies < life.born)
 }
 
-/// The buffer that a value takes, where there is one for it.
+/// The buffer that a value takes, where one is free for it.
 fn free(holders: &[Life], life: &Life) -> Option<usize>
     ensures { result ≡ first_free holders.now life.now }
 {
@@ -74,7 +74,7 @@ impl Packing {
         requires born_last { All (λ z. z.life.born ≤ life.now.born) self.old.placed.items }
         requires lasting { life.now.born < life.now.dies }
         requires few { length self.old.placed.items < 16384 }
-        ensures placed { OnOk result (map (λ z. z.life) self.new.placed.items ≡ map (λ z. z.life) self.old.placed.items ++ life.now ∷ []) }
+        ensures placed { OnOk result (lives_in self.new.placed.items ≡ lives_in self.old.placed.items ++ life.now ∷ []) }
         ensures packed { OnOk result (IsPacked self.new.holders.items self.new.placed.items self.new.peak) }
     {
         let buffer = match free(&self.holders, life) {
@@ -100,7 +100,7 @@ impl Packing {
 pub(crate) fn pack(alloc: Global, lives: &[Life]) -> Result<Packing, AllocError>
     requires lasting { All (λ x. x.born < x.dies) lives.now }
     requires few { length lives.now ≤ 16384 }
-    ensures all { IfOk result (λ p. IsPermutation lives.now (map (λ z. z.life) p.placed.items)) }
+    ensures all { IfOk result (λ p. IsPermutation lives.now (lives_in p.placed.items)) }
     ensures packed { IfOk result (λ p. IsPacked p.holders.items p.placed.items p.peak) }
 {
     let order = by_birth(alloc, lives)?;

@@ -6,19 +6,18 @@ use plan_model::Life;
 use std::alloc::{AllocError, Global};
 use std::test::Fail;
 
-/// The life of an output channel of a node, with its births, its death and the node that alone reads it there, or 0.
+/// The life of an output channel of a node, which one node alone reads in its last wave.
 fn life(uid: u32, channel: u32, born: u32, dies: u32, reader: u32) -> Life {
-    let reader = if reader == 0 { None } else { Some(Uid(reader)) };
     Life {
         uid: Uid(uid),
         channel,
         born,
         dies,
-        reader,
+        reader: Some(Uid(reader)),
     }
 }
 
-/// Channels and peak of an assignment to lives, which have to be lives.
+/// Channels and peak of an assignment, where these are lives.
 fn channels_and_peak(
     alloc: Global,
     lives: &[Life],
@@ -33,7 +32,7 @@ fn channels_and_peak(
 }
 
 #[test]
-fn channels_and_peaks(rt: HostRuntime) -> Result<(), Fail> {
+fn worked_lives(rt: HostRuntime) -> Result<(), Fail> {
     let alloc = rt.alloc();
     // A node beside two in a row: needs 1, 2, 2, 2.
     let beside = [
@@ -60,7 +59,10 @@ fn channels_and_peaks(rt: HostRuntime) -> Result<(), Fail> {
     ];
     assert_eq!(rt; channels_and_peak(alloc, &gains, 6)?, Some((3, 2)));
     assert_eq!(rt; channels_and_peak(alloc, &[], 1)?, Some((0, 0)));
-    // A value that dies in its own wave has no life.
+    // These die where they are born, stand in another order, and die after the last wave.
+    let swapped = [life(3, 0, 1, 2, 2), life(1, 0, 0, 1, 3)];
     assert_eq!(rt; channels_and_peak(alloc, &[life(1, 0, 0, 0, 2)], 1)?, None);
+    assert_eq!(rt; channels_and_peak(alloc, &swapped, 3)?, None);
+    assert_eq!(rt; channels_and_peak(alloc, &swap, 2)?, None);
     Ok(())
 }
