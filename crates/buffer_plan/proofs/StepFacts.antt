@@ -1,20 +1,20 @@
 -- One step of the packing: a value takes over a buffer in place, takes one whose value died before, or opens one.
 use Rattle.std.proofs.Common.{◌≡◌, ◌⊎◌, ℕ, suc, ◌+◌, ◌-◌, ◌<◌, ◌≤◌, Bool, true, false, eqb, ltb, List, [], ◌∷◌, ◌++◌, length, get_or, set, map, take, refl, sym, ◌∙◌, ap, subst, inl, inr, ⊎_elim, arith, All, AllPairs, count_by, Option, Some, None, position}
-use Rattle.std.proofs.lemmas.Bool.{ltb-false, true≢false, cases_lt, cases_eq, and_parts, and_left, and_right, eqb-true, eq-eqb, ltb-true, ne_eqb, le-ltb, le-leb, lt-leb}
-use Rattle.std.proofs.lemmas.Bool.Decides.{nat_tests}
 use Rattle.std.specs.List.Sorted.{IsNonDecreasingBy}
-use Rattle.plan_model.proofs.Saved.{All-from_map}
-use Rattle.std.proofs.lemmas.List.{get_or-take, get_or_default, length-take, get_or_append_left, get_or_push, length_push, length-set, get_or-set_same, get_or-set_other}
+use Rattle.std.specs.Option.{option_or}
+use Rattle.std.proofs.lemmas.Bool.Decides.{nat_tests}
+use Rattle.std.proofs.lemmas.Bool.{ltb-false, true≢false, cases_lt, cases_eq, and_parts, and_left, and_right, eqb-true, eq-eqb, ltb-true, ne_eqb, le-ltb, le-leb, lt-leb}
 use Rattle.std.proofs.lemmas.List.Elements.{All-push, Contains-get_or}
 use Rattle.std.proofs.lemmas.List.Quantifiers.{all_pairs_push, position-Some}
-use Rattle.std.specs.Option.{option_or}
+use Rattle.std.proofs.lemmas.List.{get_or-take, get_or_default, length-take, get_or_append_left, get_or_push, length_push, length-set, get_or-set_same, get_or-set_other}
 use Rattle.std.proofs.lemmas.Option.{none-some}
-use Rattle.plan_model.specs.Buffers.{is_born, is_reader, is_born_of, is_freed, Follows, MayShare}
 use Rattle.graph_model.specs.declared.graph.Uid.{Uid}
+use Rattle.plan_model.specs.Buffers.{is_born, is_reader, is_born_of, is_freed, Follows, MayShare}
 use Rattle.plan_model.specs.declared.buffers.Life.{Life}
-use Rattle.plan_model.proofs.Counts.{bit, is_before}
 use Rattle.plan_model.proofs.Below.{sum_below-same, sum_below-zero, count_by-cons, count_by_none, count_by_at}
+use Rattle.plan_model.proofs.Counts.{bit, is_before}
 use Rattle.plan_model.proofs.LowerBound.{alive_le_buffers}
+use Rattle.plan_model.proofs.Saved.{All-from_map}
 use Rattle.buffer_plan.specs.Packed.{is_alive, active, borne, freed, saved_by, first_free, IsPacked}
 use Rattle.buffer_plan.specs.declared.packing.Placed.{Placed}
 use Rattle.buffer_plan.proofs.ListFacts.{count_by_push, count_by-set, count_by_all, All-push_front, All-push_last, position_none, sum_below_bump}
@@ -113,6 +113,7 @@ active_is_alive (z ∷ zs) s h l =
     one : (x : Life) → x.born ≤ s → x.born < x.dies → bit (is_before s x) + bit (is_born s x) ≡ bit (is_alive s x)
     one x b l = grind (arith, nat_tests)
 
+-- a value that is placed after those that were born no later
 module _ (holders : List Life) (zs : List Placed) (peak : ℕ) (p : IsPacked holders zs peak) (z : Placed) (later : All (λ x. x.life.born ≤ z.life.born) zs) (lasts : z.life.born < z.life.dies) where
   lasting' : All (λ x. x.life.born < x.life.dies) (zs ++ z ∷ [])
   lasting' = All-push (λ (x : Placed). x.life.born < x.life.dies) zs z p.lasting lasts

@@ -58,7 +58,7 @@ pub fn assign(alloc: Global, lives: &List<Life>, waves: u32) -> Result<Homes, Al
     sort_by_value(&mut packing.placed)?;
     Ok(Homes {
         homes: homes_of(alloc, &packing.placed)?,
-        channels: packing.holders.len() as u32,
+        channels: packing.channels(),
         peak: u64::from(packing.peak),
     })
 }

@@ -22,7 +22,7 @@ pub(crate) struct Packing {
     /// The values in the order of their births.
     pub(crate) placed: Vec<Placed>,
     /// The value that each buffer had last.
-    pub(crate) holders: Vec<Life>,
+    holders: Vec<Life>,
     /// The index of the first wave that needs all the buffers.
     pub(crate) peak: u32,
 }
@@ -93,6 +93,14 @@ impl Packing {
             buffer: buffer as u32,
         })?;
         Ok(())
+    }
+
+    /// How many buffers there are.
+    pub(crate) fn channels(&self) -> u32
+        requires few { length self.now.holders.items ≤ 16384 }
+        ensures { result ≡ length self.now.holders.items }
+    {
+        self.holders.len() as u32
     }
 }
 
