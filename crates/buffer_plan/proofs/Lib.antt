@@ -1,0 +1,4 @@
+pub mod ListFacts
+pub mod StepFacts
+pub mod SortFacts
+pub mod AssignFacts
