@@ -1,0 +1,4 @@
+pub mod TakenLaws
+pub mod Numerals
+pub mod InTurn
+pub mod RangeLaws

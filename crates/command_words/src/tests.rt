@@ -1,0 +1,1 @@
+//! Words that are requests, and words that are none.
