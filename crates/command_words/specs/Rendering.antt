@@ -1,6 +1,6 @@
 -- What `render GRAPH IN OUT [--block N | --cuts a,b,..] [--tail T] [--compensate] [--waves] [--bits B]` asks for.
-use Rattle.std.specs.Prelude.{ℕ, ◌<◌, ◌≤◌, ◌==◌, All, Bool, List, [], ◌∷◌, Option, Some, None, codes, fold, if◌then◌else◌, length, nat_le, Result, Ok, Err}
-use Rattle.std.specs.Prelude.{option_map}
+use Rattle.std.specs.Prelude.{ℕ, ◌<◌, ◌≤◌, ◌==◌, All, Bool, List, [], ◌∷◌, Option, Some, None, codes, fold, length, nat_le}
+use Rattle.std.specs.Prelude.{if◌then◌else◌, option_map, Result, Ok, Err}
 use Rattle.std.specs.List.{slice_split}
 use Rattle.std.specs.Option.{ok_or}
 use Rattle.clap.specs.Words.{App, Row, Text, first_of, new_app, with_rule}
@@ -38,8 +38,9 @@ render_said r = record {
 }
 
 abbrev pub render_command : App
-render_command = fold with_rule (new_app (codes "render")) (positional (codes "GRAPH") ∷ positional (codes "IN") ∷ positional (codes "OUT")
-    ∷ option (codes "block") ∷ option (codes "cuts") ∷ option (codes "tail") ∷ flag (codes "compensate") ∷ flag (codes "waves") ∷ option (codes "bits") ∷ [])
+render_command = fold with_rule (new_app (codes "render"))
+    (positional (codes "GRAPH") ∷ positional (codes "IN") ∷ positional (codes "OUT") ∷ option (codes "block") ∷ option (codes "cuts")
+    ∷ option (codes "tail") ∷ flag (codes "compensate") ∷ flag (codes "waves") ∷ option (codes "bits") ∷ [])
 
 -- at least one length, each of 1 to 8192 frames
 abbrev pub IsCutting : List ℕ → Type 0
@@ -75,7 +76,8 @@ bits_of None = Ok None
 bits_of (Some t) = ok_or (option_map Some (number_that is_size t)) NoRequest
 
 abbrev pub render_in : List Row → Result RenderRequest WordsFault
-render_in rows = taking (wanted (codes "GRAPH") rows) (λ graph. taking (wanted (codes "IN") rows) (λ input. taking (wanted (codes "OUT") rows) (λ output.
+render_in rows = taking (wanted (codes "GRAPH") rows) (λ graph. taking (wanted (codes "IN") rows) (λ input.
+    taking (wanted (codes "OUT") rows) (λ output.
     taking (cutting_of (first_of (codes "block") rows) (first_of (codes "cuts") rows)) (λ cutting.
     taking (tail_of (first_of (codes "tail") rows)) (λ tail. taking (bits_of (first_of (codes "bits") rows)) (λ bits. Ok (record {
       graph = graph;

@@ -4,8 +4,8 @@ ghost use Rattle.std.specs.Prelude.{◌≡◌, ◌==◌, IfOk, map, option_map, 
 ghost use Rattle.std.specs.List.{slice_split};
 ghost use Rattle.clap.specs.Words.{app_of, found_of, rows_of};
 ghost use Rattle.graph_model.specs.Refusals.{Gives, mapped};
-ghost use Rattle.command_words.specs.Rendering.{bits_of, block_length, cuts_of, cutting_of, each, render_command, render_in};
-ghost use Rattle.command_words.specs.Rendering.{render_said, render_request, tail_of};
+ghost use Rattle.command_words.specs.Rendering.{bits_of, block_length, cuts_of, cutting_of, each, render_command};
+ghost use Rattle.command_words.specs.Rendering.{render_in, render_request, render_said, tail_of};
 
 use crate::commands::{flag, is_given, option, positional, taken, value, wanted};
 use crate::fault::WordsFault;
@@ -98,11 +98,11 @@ fn cuts(alloc: Global, text: &str) -> Result<List<u32>, Refused<WordsFault>>
 fn cutting(
     alloc: Global,
     block: Option<&str>,
-    cuts_text: Option<&str>,
+    text: Option<&str>,
 ) -> Result<List<u32>, Refused<WordsFault>>
-    ensures { Gives (cutting_of (option_map (λ s. s.now) block.entry) (option_map (λ s. s.now) cuts_text.entry)) result }
+    ensures { Gives (cutting_of (option_map (λ s. s.now) block.entry) (option_map (λ s. s.now) text.entry)) result }
 {
-    match (block, cuts_text) {
+    match (block, text) {
         (None, None) => Ok(List::from_slice(alloc, &[BLOCK])?),
         (Some(block), None) => Ok(List::from_slice(alloc, &[block_length(block)?])?),
         (None, Some(text)) => cuts(alloc, text),
