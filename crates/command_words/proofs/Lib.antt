@@ -1,4 +1,3 @@
 pub mod TakenLaws
 pub mod Numerals
-pub mod InTurn
 pub mod RangeLaws
