@@ -1,0 +1,3 @@
+pub mod TakenLaws
+pub mod Numerals
+pub mod RangeLaws
