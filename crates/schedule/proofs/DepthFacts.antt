@@ -155,12 +155,12 @@ module _ (g : Graph) (sound : IsSound g) (os : List ℕ) (order : IsOrderOfNodes
       let within = order.indexes k 0 lt in
       let name = Contains-map (uid_at g) (get_or sources (get_or os k 0) []) s has in
       let by = Contains-from_map (λ (c : Connection). c.src.0) (connections_into g (uid_at g (get_or os k 0))) (uid_at g s)
-          (subst (λ xs. Contains xs (uid_at g s)) (are.each (get_or os k 0) within) name) in
+      (subst (λ xs. Contains xs (uid_at g s)) (are.each (get_or os k 0) within) name) in
       let from = filter_from (λ (c : Connection). c.dst.0 == uid_at g (get_or os k 0)) g.connections by.0 by.1 in
       let at : get_or (map (uid_at g) os) k 0 ≡ uid_at g (get_or os k 0) = get_or-map (uid_at g) os k 0 0 lt in
       let next = order.order.next k (omega (arith, length-map os (uid_at g))) in
       let before = All-contains (λ c. c.dst.0 ≡ get_or (map (uid_at g) os) k 0 → StandsBefore (map (uid_at g) os) k c.src.0) g.connections by.0 next.ready from.0
-          (eqb-true by.0.dst.0 (uid_at g (get_or os k 0)) from.1 ∙ sym at) in
+      (eqb-true by.0.dst.0 (uid_at g (get_or os k 0)) from.1 ∙ sym at) in
       let small = All-contains (λ i. i < length g.nodes) (get_or sources (get_or os k 0) []) s (are.within (get_or os k 0) within) has in
       let stands = stands_index g (named g sound) os order.indexes k s (omega arith) small (subst (StandsBefore (map (uid_at g) os) k) by.2 before) in
       subst (λ i. get_or depths i 0 ≡ depth g (uid_at g i)) stands.2 (deep.done stands.0 stands.1)

@@ -14,7 +14,7 @@ module _ {T : Type 0} where
   items_more (x ∷ es) e k =
       let rest = items_more es e k in
       elim (x.group == k) as (λ b. map (λ (y : Entry T). y.item) (cond b (x ∷ filter (λ y. y.group == k) (es ++ e ∷ [])) (filter (λ y. y.group == k) (es ++ e ∷ [])))
-          ≡ map (λ (y : Entry T). y.item) (cond b (x ∷ filter (λ y. y.group == k) es) (filter (λ y. y.group == k) es)) ++ cond (e.group == k) (e.item ∷ []) []) [
+      ≡ map (λ (y : Entry T). y.item) (cond b (x ∷ filter (λ y. y.group == k) es) (filter (λ y. y.group == k) es)) ++ cond (e.group == k) (e.item ∷ []) []) [
         | true ↦ ap (λ is. x.item ∷ is) rest
         | false ↦ rest
       ]

@@ -137,7 +137,7 @@ names_at g k (e ∷ es) deep =
     let rest = names_at g k es deep.1 in
     let test : (e.group == k) ≡ (depth g e.item.0 == k) = ap (λ n. n == k) deep.0 in
     elim (e.group == k) as (λ b. b ≡ (depth g e.item.0 == k) → map (λ (u : Uid). u.0) (map (λ (x : Entry Uid). x.item) (cond b (e ∷ filter (λ x. x.group == k) es) (filter (λ x. x.group == k) es)))
-        ≡ filter (λ v. depth g v == k) (map (λ (x : Entry Uid). x.item.0) (e ∷ es))) [
+    ≡ filter (λ v. depth g v == k) (map (λ (x : Entry Uid). x.item.0) (e ∷ es))) [
       | true ↦ λ t. ap (λ vs. e.item.0 ∷ vs) rest ∙ ap (λ b. cond b (e.item.0 ∷ filter (λ v. depth g v == k) (map (λ (x : Entry Uid). x.item.0) es)) (filter (λ v. depth g v == k) (map (λ (x : Entry Uid). x.item.0) es))) t
       | false ↦ λ f. rest ∙ ap (λ b. cond b (e.item.0 ∷ filter (λ v. depth g v == k) (map (λ (x : Entry Uid). x.item.0) es)) (filter (λ v. depth g v == k) (map (λ (x : Entry Uid). x.item.0) es))) f
     ] test
@@ -171,9 +171,12 @@ module _ (g : Graph) (sound : IsSound g) (es : List (Entry Uid)) (by : AreByDept
   found v live =
       let lt : depth g v < length waves = omega (arith, count, (live_within g sound v live).1) in
       let is = slice_get-get_or waves (depth g v) no_wave lt in
-      let among = Contains-permutation (live_nodes g) vs v by.live (kept g sound waves v live) in
-      (get_or waves (depth g v) no_wave, is, subst (λ us. Contains us v) (sym (names_are (depth g v) (get_or waves (depth g v) no_wave) is))
-      (filter_has (λ u. depth g u == depth g v) vs v among (same_name (depth g v))))
+      let among = Contains-permutation (live_nodes g) vs v by.live (kept g sound waves v live) in (
+        get_or waves (depth g v) no_wave,
+        is,
+        subst (λ us. Contains us v) (sym (names_are (depth g v) (get_or waves (depth g v) no_wave) is))
+            (filter_has (λ u. depth g u == depth g v) vs v among (same_name (depth g v))),
+      )
 
   at : (k : ℕ) → IsWaveAt g waves k
   at k = record {

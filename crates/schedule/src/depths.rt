@@ -1,4 +1,4 @@
-//! How many connections lead into each node, on the longest path.
+//! How deep each node stands: the greatest number of connections on a path into it.
 
 ghost use Rattle.std.specs.Prelude.{◌≡◌, ◌<◌, suc, length, map, slice_index, IfOk};
 ghost use Rattle.std.specs.List.{All};
@@ -12,15 +12,15 @@ use graph_model::List;
 use std::alloc::{AllocError, Global};
 
 /// The source of each connection, in the group of its destination.
-fn joints(alloc: Global, g: &Checked) -> Result<Vec<Entry<u32>>, AllocError>
-    ensures { IfOk result (λ v. AreJoints g.now g.now.connections v.items) }
+fn joints(alloc: Global, graph: &Checked) -> Result<Vec<Entry<u32>>, AllocError>
+    ensures { IfOk result (λ v. AreJoints graph.now graph.now.connections v.items) }
 {
     let mut joints = Vec::new(alloc);
-    for connection in 0..g.graph().connections.len() as u32 {
+    for connection in 0..graph.graph().connections.len() as u32 {
         let Ends {
             source,
             destination,
-        } = g.ends(connection);
+        } = graph.ends(connection);
         joints.push(Entry {
             group: destination,
             item: source,
@@ -30,11 +30,11 @@ fn joints(alloc: Global, g: &Checked) -> Result<Vec<Entry<u32>>, AllocError>
 }
 
 /// The sources of the connections into each node, by index.
-fn sources(alloc: Global, g: &Checked) -> Result<Vec<List<u32>>, AllocError>
-    ensures { IfOk result (λ v. AreSources g.now v.items) }
+fn sources(alloc: Global, graph: &Checked) -> Result<Vec<List<u32>>, AllocError>
+    ensures { IfOk result (λ v. AreSources graph.now v.items) }
 {
-    let joints = joints(alloc, g)?;
-    let sources = grouped(alloc, g.graph().nodes.len() as u32, &joints)?;
+    let joints = joints(alloc, graph)?;
+    let sources = grouped(alloc, graph.graph().nodes.len() as u32, &joints)?;
     Ok(sources)
 }
 
@@ -52,13 +52,13 @@ fn depth_after(sources: &[u32], depths: &[u32]) -> u32
 }
 
 /// For each node, by index, the greatest number of connections on a path into it.
-pub(crate) fn depths(alloc: Global, g: &Checked) -> Result<Vec<u32>, AllocError>
-    ensures depths { IfOk result (λ v. v.items ≡ depths_of g.now) }
-    ensures sound { IfOk result (λ _. IsSound g.now) }
+pub(crate) fn depths(alloc: Global, graph: &Checked) -> Result<Vec<u32>, AllocError>
+    ensures depths { IfOk result (λ v. v.items ≡ depths_of graph.now) }
+    ensures sound { IfOk result (λ _. IsSound graph.now) }
 {
-    let sources = sources(alloc, g)?;
-    let mut depths: Vec<u32> = vec![in alloc; 0; g.graph().nodes.len()]?;
-    for node in g.order().as_slice() {
+    let sources = sources(alloc, graph)?;
+    let mut depths: Vec<u32> = vec![in alloc; 0; graph.graph().nodes.len()]?;
+    for node in graph.order().as_slice() {
         let node = *node as usize;
         depths[node] = depth_after(sources[node].as_slice(), &depths);
     }

@@ -12,15 +12,15 @@ use std::alloc::{AllocError, Global};
 /// The live nodes, ascending by uid, each in the group of its depth.
 pub(crate) fn live_nodes(
     alloc: Global,
-    g: &Checked,
+    graph: &Checked,
     depths: &[u32],
 ) -> Result<Vec<Entry<Uid>>, AllocError>
-    requires { depths.now ≡ depths_of g.now }
-    ensures { IfOk result (λ v. AreByDepth g.now v.items) }
+    requires { depths.now ≡ depths_of graph.now }
+    ensures { IfOk result (λ v. AreByDepth graph.now v.items) }
 {
     let mut live = Vec::new(alloc);
-    for (index, node) in g.graph().nodes.as_slice().iter().enumerate() {
-        if g.is_live(index as u32) {
+    for (index, node) in graph.graph().nodes.as_slice().iter().enumerate() {
+        if graph.is_live(index as u32) {
             live.push(Entry {
                 group: depths[index],
                 item: node.uid,

@@ -12,17 +12,18 @@ use graph_model::{List, Uid};
 use plan_model::{Mode, Wave};
 use std::alloc::{AllocError, Global};
 
-/// One live node a wave, in the order of the nodes.
+/// One live node a wave, in the order of the nodes: again and again the node of least uid whose sources have all been
+/// taken.
 ///
 /// It fails only for want of memory.
-pub fn one_by_one(alloc: Global, g: &Checked) -> Result<List<Wave>, AllocError>
-    ensures one_by_one { IfOk result (IsOneByOne g.now) }
-    ensures schedule { IfOk result (IsSchedule g.now) }
+pub fn one_by_one(alloc: Global, graph: &Checked) -> Result<List<Wave>, AllocError>
+    ensures one_by_one { IfOk result (IsOneByOne graph.now) }
+    ensures schedule { IfOk result (IsSchedule graph.now) }
 {
-    let nodes = g.graph().nodes.as_slice();
+    let nodes = graph.graph().nodes.as_slice();
     let mut waves = List::new(alloc);
-    for index in g.order().as_slice() {
-        if g.is_live(*index) {
+    for index in graph.order().as_slice() {
+        if graph.is_live(*index) {
             let nodes = List::from_slice(alloc, &[nodes[*index as usize].uid])?;
             waves.push(Wave { nodes })?;
         }
@@ -31,18 +32,31 @@ pub fn one_by_one(alloc: Global, g: &Checked) -> Result<List<Wave>, AllocError>
 }
 
 /// Each live node as early as its sources allow: in the wave whose index is the greatest number of connections on a
-/// path into it.
+/// path into it. Each wave ascends by uid.
 ///
 /// It fails only for want of memory.
-pub fn by_waves(alloc: Global, g: &Checked) -> Result<List<Wave>, AllocError>
-    ensures by_waves { IfOk result (IsByWaves g.now) }
-    ensures schedule { IfOk result (IsSchedule g.now) }
+pub fn by_waves(alloc: Global, graph: &Checked) -> Result<List<Wave>, AllocError>
+    ensures by_waves { IfOk result (IsByWaves graph.now) }
+    ensures schedule { IfOk result (IsSchedule graph.now) }
 {
-    let depths = depths(alloc, g)?;
-    let live = live_nodes(alloc, g, &depths)?;
-    let count = depths[g.output() as usize] + 1;
+    let depths = depths(alloc, graph)?;
+    let live = live_nodes(alloc, graph, &depths)?;
+    let count = depths[graph.output() as usize] + 1;
     let waves = waves_of(alloc, grouped(alloc, count, &live)?)?;
     Ok(waves)
+}
+
+/// The schedule of a mode.
+///
+/// It fails only for want of memory.
+pub fn schedule(alloc: Global, graph: &Checked, mode: Mode) -> Result<List<Wave>, AllocError>
+    ensures of_mode { IfOk result (HasSchedule graph.now mode) }
+    ensures schedule { IfOk result (IsSchedule graph.now) }
+{
+    match mode {
+        Mode::OneByOne => one_by_one(alloc, graph),
+        Mode::Waves => by_waves(alloc, graph),
+    }
 }
 
 /// A wave for each of these lists.
@@ -54,17 +68,4 @@ fn waves_of(alloc: Global, levels: Vec<List<Uid>>) -> Result<List<Wave>, AllocEr
         waves.push(Wave { nodes })?;
     }
     Ok(waves)
-}
-
-/// The schedule of a mode.
-///
-/// It fails only for want of memory.
-pub fn schedule(alloc: Global, g: &Checked, mode: Mode) -> Result<List<Wave>, AllocError>
-    ensures of_mode { IfOk result (HasSchedule g.now mode) }
-    ensures schedule { IfOk result (IsSchedule g.now) }
-{
-    match mode {
-        Mode::OneByOne => one_by_one(alloc, g),
-        Mode::Waves => by_waves(alloc, g),
-    }
 }

@@ -8,6 +8,6 @@ use Rattle.schedule.proofs.live.live_nodes.Given as goal
 -- the live nodes so far, each in the group of its depth
 abbrev pub invariant-loop-index : goal.invariant-loop-index
 invariant-loop-index l = record {
-  live : map (λ (e : Entry Uid). e.item.0) l.live.items ≡ filter (is_live l.g) (map (λ (n : Node). n.uid.0) (take l.index l.g.nodes));
-  deep : All (λ (e : Entry Uid). e.group ≡ depth l.g e.item.0) l.live.items;
+  live : map (λ (e : Entry Uid). e.item.0) l.live.items ≡ filter (is_live l.graph) (map (λ (n : Node). n.uid.0) (take l.index l.graph.nodes));
+  deep : All (λ (e : Entry Uid). e.group ≡ depth l.graph e.item.0) l.live.items;
 }

@@ -7,10 +7,10 @@ use Rattle.schedule.proofs.modes.one_by_one.Goals as goal
 
 pub returns-clause-schedule : goal.returns-clause-schedule
 returns-clause-schedule c =
-    let g = c.args.g.now in
+    let g = c.args.graph.now in
     let all = take_all c.loop-index.index-index c.as_slice-index-items.result.now c.loop-index-test.false ∙ c.as_slice-index-items.ensures in
-    one_by_one_is_schedule c.args.g.now c.loop-index.waves c.graph.ensures.sound (
-      map (uid_at c.args.g.now) c.order.result.now,
+    one_by_one_is_schedule c.args.graph.now c.loop-index.waves c.graph.ensures.sound (
+      map (uid_at c.args.graph.now) c.order.result.now,
       c.order.ensures.order,
-      c.loop-index.invariant ∙ ap (λ xs. map (λ v. v ∷ []) (filter (is_live c.args.g.now) (map (uid_at c.args.g.now) xs))) all,
+      c.loop-index.invariant ∙ ap (λ xs. map (λ v. v ∷ []) (filter (is_live c.args.graph.now) (map (uid_at c.args.graph.now) xs))) all,
     )

@@ -6,4 +6,4 @@ use Rattle.schedule.proofs.modes.one_by_one.Given as goal
 
 -- a wave for each live node so far
 abbrev pub invariant-loop-index : goal.invariant-loop-index
-invariant-loop-index l = map names l.waves ≡ map (λ v. v ∷ []) (filter (is_live l.g) (map (uid_at l.g) (take l.index-index l.index-items)))
+invariant-loop-index l = map names l.waves ≡ map (λ v. v ∷ []) (filter (is_live l.graph) (map (uid_at l.graph) (take l.index-index l.index-items)))
