@@ -4,7 +4,7 @@ use Rattle.std.proofs.lemmas.Bool.{eqb-true, cases_eq, cases_lt}
 use Rattle.std.proofs.lemmas.List.{get_or_default, get_or-map, get_or-set_same, get_or-set_other, length-map, length-set, ext_get_or, map_push, take_more}
 use Rattle.std.proofs.lemmas.List.Elements.{All-contains, All-push, recursion_from_All, Contains-get_or}
 use Rattle.graph_model.specs.Graphs.{IsNode, connections_into, output_name}
-use Rattle.graph_model.specs.Named.{IsNamed, uid_at}
+use Rattle.graph_model.specs.Named.{uid_at}
 use Rattle.graph_model.specs.Orders.{StandsBefore}
 use Rattle.graph_model.specs.Paths.{IsPathTo, depth, greatest}
 use Rattle.graph_model.specs.Sound.{IsSound}
@@ -93,9 +93,6 @@ are_sources g sound es groups joints are = record {
 pub depth_by_sources : (g : Graph) → IsSound g → (v : ℕ) → IsNode g v → greatest (map (λ (c : Connection). suc (depth g c.src.0)) (connections_into g v)) ≡ depth g v
 depth_by_sources g sound v node = omega (arith, over, under (depth_is_deepest g sound.shaped v node).reached)
   where
-    into : List Connection
-    into = connections_into g v
-
     over : greatest (map (λ (c : Connection). suc (depth g c.src.0)) (connections_into g v)) ≤ depth g v
     over =
         greatest_under (λ (c : Connection). suc (depth g c.src.0)) (depth g v) (connections_into g v)
@@ -135,11 +132,15 @@ pub record AreDeep (g : Graph) (os : List ℕ) (k : ℕ) (depths : List ℕ) : T
   pub done : (j : ℕ) → j < k → get_or depths (get_or os j 0) 0 ≡ depth g (uid_at g (get_or os j 0))
   pub small : All (λ d. d < 512) depths
 
-greatest_alike : {X : Type 0} (f h : X → ℕ) (xs : List X) → ((x : X) → Contains xs x → f x ≡ h x) → map f xs ≡ map h xs
-greatest_alike f h [] same = refl
-greatest_alike f h (x ∷ xs) same =
+-- what stands before a place of the order has its depth
+done_before : (g : Graph) (os : List ℕ) (k : ℕ) (depths : List ℕ) (v : ℕ) → AreDeep g os k depths → StandsBefore os k v → get_or depths v 0 ≡ depth g (uid_at g v)
+done_before g os k depths v deep (j, lt, e) = subst (λ i. get_or depths i 0 ≡ depth g (uid_at g i)) e (deep.done j lt)
+
+map_alike : {X : Type 0} (f h : X → ℕ) (xs : List X) → ((x : X) → Contains xs x → f x ≡ h x) → map f xs ≡ map h xs
+map_alike f h [] same = refl
+map_alike f h (x ∷ xs) same =
     let first = same x (0, omega arith, refl) in
-    let rest = greatest_alike f h xs (λ y has. same y (suc has.0, omega (arith, has.1), has.2)) in
+    let rest = map_alike f h xs (λ y has. same y (suc has.0, omega (arith, has.1), has.2)) in
     λ i. first i ∷ rest i
 
 map_twice : {X Y Z : Type 0} (f : Y → Z) (h : X → Y) (xs : List X) → map f (map h xs) ≡ map (λ x. f (h x)) xs
@@ -151,7 +152,6 @@ module _ (g : Graph) (sound : IsSound g) (os : List ℕ) (order : IsOrderOfNodes
   source_done : (k : ℕ) (depths : List ℕ) → k < length os → AreDeep g os k depths → (s : ℕ) → Contains (get_or sources (get_or os k 0) []) s
       → get_or depths s 0 ≡ depth g (uid_at g s)
   source_done k depths lt deep s has =
-      let v = get_or os k 0 in
       let within = order.indexes k 0 lt in
       let name = Contains-map (uid_at g) (get_or sources (get_or os k 0) []) s has in
       let by = Contains-from_map (λ (c : Connection). c.src.0) (connections_into g (uid_at g (get_or os k 0))) (uid_at g s)
@@ -162,16 +162,14 @@ module _ (g : Graph) (sound : IsSound g) (os : List ℕ) (order : IsOrderOfNodes
       let before = All-contains (λ c. c.dst.0 ≡ get_or (map (uid_at g) os) k 0 → StandsBefore (map (uid_at g) os) k c.src.0) g.connections by.0 next.ready from.0
       (eqb-true by.0.dst.0 (uid_at g (get_or os k 0)) from.1 ∙ sym at) in
       let small = All-contains (λ i. i < length g.nodes) (get_or sources (get_or os k 0) []) s (are.within (get_or os k 0) within) has in
-      let stands = stands_index g (named g sound) os order.indexes k s (omega arith) small (subst (StandsBefore (map (uid_at g) os) k) by.2 before) in
-      subst (λ i. get_or depths i 0 ≡ depth g (uid_at g i)) stands.2 (deep.done stands.0 stands.1)
+      done_before g os k depths s deep (stands_index g (named g sound) os order.indexes k s (omega arith) small (subst (StandsBefore (map (uid_at g) os) k) by.2 before))
 
   depth_found : (k : ℕ) (depths : List ℕ) → k < length os → AreDeep g os k depths
       → greatest (map (λ s. suc (get_or depths s 0)) (get_or sources (get_or os k 0) [])) ≡ depth g (uid_at g (get_or os k 0))
   depth_found k depths lt deep =
-      let ss = get_or sources (get_or os k 0) [] in
       let within = order.indexes k 0 lt in
       ap greatest
-      (greatest_alike (λ s. suc (get_or depths s 0)) (λ s. suc (depth g (uid_at g s))) (get_or sources (get_or os k 0) []) (λ s has. ap suc (source_done k depths lt deep s has))
+      (map_alike (λ s. suc (get_or depths s 0)) (λ s. suc (depth g (uid_at g s))) (get_or sources (get_or os k 0) []) (λ s has. ap suc (source_done k depths lt deep s has))
       ∙ sym (map_twice (λ u. suc (depth g u)) (uid_at g) (get_or sources (get_or os k 0) []))
       ∙ ap (map (λ u. suc (depth g u))) (are.each (get_or os k 0) within)
       ∙ map_twice (λ u. suc (depth g u)) (λ (c : Connection). c.src.0) (connections_into g (uid_at g (get_or os k 0))))

@@ -1,9 +1,9 @@
 -- Levels are the schedule by waves.
-use Rattle.std.proofs.Common.{◌≡◌, ℕ, zero, suc, ◌+◌, ◌<◌, ◌≤◌, ◌==◌, List, [], ◌∷◌, length, map, take, get_or, slice_index, refl, sym, ap, subst, ◌∙◌, arith, Bool, true, false, cond, filter, All, Contains, ◌⊎◌, ⊎_elim, inl, inr, Some, IsPermutation}
+use Rattle.std.proofs.Common.{◌≡◌, ℕ, zero, suc, ◌+◌, ◌<◌, ◌≤◌, ◌==◌, List, [], ◌∷◌, length, map, take, get_or, slice_index, refl, sym, ap, subst, ◌∙◌, arith, true, false, cond, filter, All, Contains, ⊎_elim, inl, inr, Some, IsPermutation}
 use Rattle.std.specs.Prelude.{slice_get}
 use Rattle.std.specs.List.{flat_map, AllByRecursion}
 use Rattle.std.specs.List.Sorted.{IsStrictlyIncreasing, IsNonDecreasingBy}
-use Rattle.std.proofs.lemmas.Bool.{eqb-true, cases_eq, cases_lt, cases_order}
+use Rattle.std.proofs.lemmas.Bool.{eqb-true, cases_eq, cases_order}
 use Rattle.std.proofs.lemmas.List.{get_or-map, get_or-take, length-map, length-take}
 use Rattle.std.proofs.lemmas.List.Elements.{All-contains, Contains-get_or, recursion_from_All}
 use Rattle.std.proofs.lemmas.List.Kept.{IsStrictlyIncreasing-filter}
@@ -17,7 +17,7 @@ use Rattle.graph_model.specs.declared.graph.Connection.{Connection}
 use Rattle.graph_model.specs.declared.graph.Graph.{Graph}
 use Rattle.graph_model.proofs.Common.{some_same}
 use Rattle.graph_model.proofs.NodeFacts.{output_is_node}
-use Rattle.graph_model.proofs.LiveLaws.{ends_live, live_by, live_test, output_is_live}
+use Rattle.graph_model.proofs.LiveLaws.{ends_live, live_by, output_is_live}
 use Rattle.graph_model.proofs.PathLaws.{first_or_later, live_source, same_name}
 use Rattle.graph_model.proofs.RankLaws.{depth_is_deepest, node_of, sound_is_ranked}
 use Rattle.graph_model.proofs.ReachLaws.{filter_from, filter_has}
@@ -27,7 +27,7 @@ use Rattle.plan_model.specs.declared.schedule.Wave.{Wave}
 use Rattle.plan_model.proofs.CertifiedLaws.{stands_in}
 use Rattle.plan_model.proofs.Distinct.{Differ, differ_permuted}
 use Rattle.plan_model.proofs.Saved.{Contains-map}
-use Rattle.plan_model.proofs.WaveLaws.{each_entry, first_with, in_any, in_earlier, kept, live_differ, not_before, waves_by_entries}
+use Rattle.plan_model.proofs.WaveLaws.{each_entry, first_with, in_any, in_earlier, kept, live_differ, waves_by_entries}
 use Rattle.schedule.specs.Groups.{AreGroups, items_of}
 use Rattle.schedule.specs.Levels.{AreByDepth}
 use Rattle.schedule.specs.declared.groups.Entry.{Entry}

@@ -1,9 +1,8 @@
-use Rattle.std.proofs.Common.{◌∙◌, ◌<◌, suc, List, sym, subst, arith, All}
+use Rattle.std.proofs.Common.{◌<◌, suc, sym, subst, arith, All}
 use Rattle.graph_model.specs.Graphs.{output_name}
 use Rattle.graph_model.specs.Paths.{depth}
 use Rattle.graph_model.specs.declared.graph.Uid.{Uid}
 use Rattle.plan_model.specs.Schedules.{IsByWaves}
-use Rattle.schedule.specs.Groups.{AreGroups}
 use Rattle.schedule.specs.declared.groups.Entry.{Entry}
 use Rattle.schedule.proofs.DepthFacts.{output_depth}
 use Rattle.schedule.proofs.LevelFacts.{are_by_waves, groups_within}
