@@ -1,0 +1,3 @@
+pub mod GroupFacts
+pub mod DepthFacts
+pub mod LevelFacts
