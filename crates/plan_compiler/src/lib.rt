@@ -24,6 +24,9 @@ ghost use Rattle.plan_model.specs.Results.{HasSchedule, IsPlan};
 ghost use Rattle.plan_model.specs.Rules.{IsPeak};
 ghost use Rattle.plan_model.specs.Schedules.{IsSchedule};
 
+#[cfg(test)]
+mod tests;
+
 use alignment::align;
 use buffer_plan::{Homes, assign};
 use connections::Checked;
