@@ -6,8 +6,8 @@
 //! one that a mode names.
 //!
 //! It promises that each is the schedule of that name by the definitions of `plan_model`, by whose law graph and mode
-//! have one, and that it is a schedule. The depths are found along the order, from lists of each node's sources, so that
-//! no connection is read twice.
+//! have one, and that it is a schedule. The depths are found along the order, from a list of the sources of each node,
+//! so that no connection is read twice.
 //!
 //! It stands on `connections` for sound graphs, their order and their live nodes, and on `plan_model` for schedules.
 #![tactic(auto)]
