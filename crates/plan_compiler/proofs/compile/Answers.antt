@@ -29,7 +29,7 @@ returns-clause-plan c = record {
   certified = returns-clause-certified c;
   best = c.in_ok-aligned.ensures.aligned.best;
   path = subst (IsPrintedPath c.args.graph.now) (sym c.in_ok-copy.ensures) c.path.ensures;
-  schedule = c.in_ok-waves.ensures.mode;
+  schedule = c.in_ok-waves.ensures.of_mode;
 }
 
 pub returns-clause-least_latency : goal.returns-clause-least_latency
