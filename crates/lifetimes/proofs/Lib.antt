@@ -1,6 +1,6 @@
 mod WaveFacts
 mod ReadOrder
-mod Joining
+mod JoinedFacts
 mod LifeFacts
 mod TallyFacts
 mod TurnFacts

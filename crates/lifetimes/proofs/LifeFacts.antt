@@ -5,7 +5,7 @@ use Rattle.std.specs.Cmp.{first_so, second_so}
 use Rattle.std.proofs.lemmas.Bool.{eqb-true}
 use Rattle.std.proofs.lemmas.List.{append-nil, get_or-map, length-map, map-append}
 use Rattle.std.proofs.lemmas.List.Elements.{All-contains, All-head, All-map, All-tail, filter_more}
-use Rattle.std.proofs.lemmas.List.Sorted.{All-permutation, Contains-permutation, IsPermutation-sym, length_permutation}
+use Rattle.std.proofs.lemmas.List.Sorted.{All-permutation, Contains-permutation, IsPermutation-sym}
 use Rattle.std.proofs.lemmas.List.Sums.{length-filter, count_by-le-length}
 use Rattle.graph_model.proofs.NameFacts.{any_node, same_uid}
 use Rattle.graph_model.proofs.PathLaws.{same_name, and_both}
@@ -57,7 +57,7 @@ module _ (g : Graph) (waves : List Wave) where
       ∙ sym (ap (map (read_by waves)) (filter_more (λ e. is_live g e.dst.0) g.connections i d l))
 
 -- ---- the order of the reads does not matter
-lives_permuted : (rs qs : List Read) (xs : List Life) → IsPermutation rs qs → AreLivesBy qs xs → AreLivesBy rs xs
+pub lives_permuted : (rs qs : List Read) (xs : List Life) → IsPermutation rs qs → AreLivesBy qs xs → AreLivesBy rs xs
 lives_permuted rs qs xs p h = record {
   ascending = h.ascending;
   each = λ k d l. one (get_or xs k d) (h.each k d l);
@@ -81,7 +81,7 @@ port_of x = record { uid = x.uid; channel = x.channel }
 
 module _ (g : Graph) (waves : List Wave) where
   -- there are no more reads than connections
-  few_reads : IsSound g → length (reads_in g waves) ≤ 8192
+  pub few_reads : IsSound g → length (reads_in g waves) ≤ 8192
   few_reads sound =
       omega (
         arith,
@@ -161,21 +161,16 @@ module _ (g : Graph) (waves : List Wave) where
         let rest = all_lives ys (All-tail (IsLifeBy (reads_in g waves)) y ys each) in
         λ i. first i ∷ rest i
 
-    lives_are : xs ≡ lives_of g waves (values g)
-    lives_are = all_lives xs h.each ∙ ap (lives_of g waves) (values_are_unique g (map port_of xs) (values g) ports (values_are_listed g))
+    all_found : xs ≡ lives_of g waves (values g)
+    all_found = all_lives xs h.each ∙ ap (lives_of g waves) (values_are_unique g (map port_of xs) (values g) ports (values_are_listed g))
 
-  -- ---- from reads in any order
-  pub lives_found : (sorted : List Read) → IsPermutation (reads_in g waves) sorted → (xs : List Life) → AreLivesBy sorted xs → xs ≡ lives_of g waves (values g)
-  lives_found sorted moved xs h = lives_are xs (lives_permuted (reads_in g waves) sorted xs moved h)
+  pub lives_are : (reads : List Read) → reads ≡ reads_in g waves → (xs : List Life) → AreLivesBy reads xs → xs ≡ lives_of g waves (values g)
+  lives_are reads made xs h = all_found xs (subst (λ rs. AreLivesBy rs xs) made h)
 
   pub lives_usable : IsSound g → IsSchedule g waves → (xs : List Life) → xs ≡ lives_of g waves (values g) → AreLives xs (length waves)
   lives_usable sound schedule xs e = subst (λ ys. AreLives ys (length waves)) (sym e) (are_lives g waves (values g) sound schedule (values_are_listed g))
 
-  pub lives_few : IsSound g → (sorted : List Read) → IsPermutation (reads_in g waves) sorted → (xs : List Life) → length xs ≤ length sorted → length xs ≤ 8192
-  lives_few sound sorted moved xs le = omega (arith, length_permutation (reads_in g waves) sorted moved, few_reads sound)
-
--- what is sorted are the reads, where the waves of the nodes were found in the same graph and waves
-pub reads_moved : (g h : Graph) (waves ws : List Wave) → h ≡ g → ws ≡ waves → (node_waves : List ℕ) → node_waves ≡ map (λ n. wave_of ws n.uid.0) h.nodes → (reads sorted : List Read)
-    → ((vs : List Wave) → node_waves ≡ map (λ n. wave_of vs n.uid.0) g.nodes → reads ≡ reads_in g vs) → IsPermutation reads sorted → IsPermutation (reads_in g waves) sorted
-reads_moved g h waves ws same alike node_waves given reads sorted made moved =
-    subst (λ rs. IsPermutation rs sorted) (made waves (given ∙ (λ i. map (λ (n : Node). wave_of (alike i) n.uid.0) (same i).nodes))) moved
+-- the reads are those of the same graph and waves
+pub same_reads : (g h : Graph) (waves ws : List Wave) → h ≡ g → ws ≡ waves → (node_waves : List ℕ) → node_waves ≡ map (λ n. wave_of ws n.uid.0) h.nodes → (reads : List Read)
+    → ((vs : List Wave) → node_waves ≡ map (λ n. wave_of vs n.uid.0) g.nodes → reads ≡ reads_in g vs) → reads ≡ reads_in g waves
+same_reads g h waves ws same alike node_waves given reads made = made waves (given ∙ (λ i. map (λ (n : Node). wave_of (alike i) n.uid.0) (same i).nodes))

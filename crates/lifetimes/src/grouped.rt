@@ -65,8 +65,8 @@ fn is_of_last(lives: &[Life], read: &Read) -> bool
     }
 }
 
-/// One life for each value that is read.
-pub(crate) fn lives_by(alloc: Global, reads: &[Read]) -> Result<List<Life>, AllocError>
+/// One life for each value that is read. The reads of a value stand beside each other.
+fn grouped(alloc: Global, reads: &[Read]) -> Result<List<Life>, AllocError>
     requires { AllPairs (λ r q. ¬ ReadBefore q r) reads.now }
     ensures lives { IfOk result (AreLivesBy reads.now) }
     ensures few { IfOk result (λ lives. length lives ≤ length reads.now) }
@@ -81,4 +81,13 @@ pub(crate) fn lives_by(alloc: Global, reads: &[Read]) -> Result<List<Life>, Allo
         }
     }
     List::from_slice(alloc, &lives)
+}
+
+/// One life for each value that is read. The reads come in any order.
+pub(crate) fn lives_by(alloc: Global, mut reads: Vec<Read>) -> Result<List<Life>, AllocError>
+    ensures lives { IfOk result (AreLivesBy reads.items) }
+    ensures few { IfOk result (λ lives. length lives ≤ length reads.items) }
+{
+    reads.sort_unstable();
+    grouped(alloc, &reads)
 }

@@ -44,9 +44,8 @@ pub fn lives(alloc: Global, g: &Checked, waves: &List<Wave>) -> Result<List<Life
     ensures few { IfOk result (λ lives. length lives ≤ 8192) }
 {
     let node_waves = node_waves(alloc, g.graph(), waves.as_slice())?;
-    let mut reads = reads(alloc, g, &node_waves)?;
-    reads.sort_unstable();
-    lives_by(alloc, &reads)
+    let reads = reads(alloc, g, &node_waves)?;
+    lives_by(alloc, reads)
 }
 
 /// How many buffers each wave needs: one for each value that is alive in it, where a node may bear as many in place as

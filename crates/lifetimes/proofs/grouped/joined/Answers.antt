@@ -1,6 +1,6 @@
 use Rattle.std.proofs.Common.{inl, inr, sym, ◌∙◌, arith, rules}
 use Rattle.std.proofs.lemmas.Bool.{true≢false}
-use Rattle.lifetimes.proofs.Joining.{second_reader, known_reader}
+use Rattle.lifetimes.proofs.JoinedFacts.{second_reader, known_reader}
 use Rattle.lifetimes.proofs.grouped.joined.Goals as goal
 use Rattle.lifetimes.proofs.grouped.joined.Goals.{else-life-read-2-via-then-life-read-2+else-not-is_sole, else-life-read-2-via-else-life-read-2}
 

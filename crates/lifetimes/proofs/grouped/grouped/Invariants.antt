@@ -1,6 +1,6 @@
 use Rattle.std.proofs.Common.{◌≤◌, length, take}
 use Rattle.lifetimes.specs.Reads.{AreLivesBy}
-use Rattle.lifetimes.proofs.grouped.lives_by.Given as goal
+use Rattle.lifetimes.proofs.grouped.grouped.Given as goal
 
 abbrev pub invariant-loop-read : goal.invariant-loop-read
 invariant-loop-read l = record {
