@@ -1,0 +1,7 @@
+mod WaveFacts
+mod ReadOrder
+mod JoinedFacts
+mod LifeFacts
+mod TallyFacts
+mod TurnFacts
+mod NeedFacts
