@@ -6,8 +6,10 @@ ghost use Rattle.graph_model.specs.Sound.{Fits};
 use crate::compile;
 use connections::check;
 use graph_gen::graph_of as generated;
-use graph_model::{Graph, Uid};
+use graph_model::{Graph, List, Uid};
+use lifetimes::{lives, needs};
 use plan_model::{Home, Mode, Plan};
+use schedule::schedule;
 use std::alloc::{AllocError, Global};
 use std::test::Fail;
 use test_graphs::{fan_out, gain, graph_of, input, joined, joined_at, mixer, output};
@@ -26,6 +28,19 @@ fn figures(alloc: Global, graph: Graph, mode: Mode) -> Result<(u64, u64, u32, u6
 {
     let plan = plan(alloc, graph, mode)?;
     Ok((plan.latency, plan.total, plan.channels, plan.peak))
+}
+
+/// What each wave of a graph's schedule needs.
+fn needs_of(alloc: Global, graph: Graph, mode: Mode) -> Result<List<u32>, Fail>
+    requires { Fits graph }
+{
+    let checked = check(alloc, graph)?;
+    let waves = schedule(alloc, &checked, mode)?;
+    let lives = lives(alloc, &checked, &waves)?;
+    if waves.len() > 512 {
+        return Ok(List::new(alloc));
+    }
+    Ok(needs(alloc, &lives, waves.len() as u32)?)
 }
 
 /// Three gains into a mixer.
@@ -79,6 +94,19 @@ fn buffers_by_the_fullest_wave(rt: HostRuntime) -> Result<(), Fail> {
     assert_eq!(rt; figures(alloc, three_gains(alloc)?, ones)?, (0, 0, 3, 2));
     assert_eq!(rt; figures(alloc, three_gains(alloc)?, waves)?, (0, 0, 4, 1));
     assert_eq!(rt; figures(alloc, swap(alloc)?, ones)?, (0, 0, 2, 0));
+    Ok(())
+}
+
+#[test]
+fn needs_wave_by_wave(rt: HostRuntime) -> Result<(), Fail> {
+    let alloc = rt.alloc();
+    let (ones, waves) = (Mode::OneByOne, Mode::Waves);
+    let fan = needs_of(alloc, fan_out(alloc)?, ones)?;
+    assert_eq!(rt; fan.as_slice(), [1, 2, 2, 2].as_slice());
+    let gains = needs_of(alloc, three_gains(alloc)?, ones)?;
+    assert_eq!(rt; gains.as_slice(), [1, 2, 3, 3, 3, 1].as_slice());
+    let gains = needs_of(alloc, three_gains(alloc)?, waves)?;
+    assert_eq!(rt; gains.as_slice(), [1, 4, 3, 1].as_slice());
     Ok(())
 }
 
