@@ -1,3 +1,6 @@
 pub mod DigitLaws
 pub mod NumberLaws
 pub mod LineLaws
+pub mod SectionLaws
+pub mod OnceLaws
+pub mod PlanLaws
