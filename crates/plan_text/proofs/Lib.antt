@@ -4,3 +4,4 @@ pub mod LineLaws
 pub mod SectionLaws
 pub mod OnceLaws
 pub mod PlanLaws
+pub mod ReadLaws
