@@ -5,3 +5,4 @@ pub mod SectionLaws
 pub mod OnceLaws
 pub mod PlanLaws
 pub mod ReadLaws
+pub mod PrintLaws

@@ -1,0 +1,47 @@
+-- Texts that are written line by line.
+use Rattle.std.proofs.Common.{◌≡◌, ◌<◌, ◌^◌, ◌∙◌, ◌++◌, ℕ, List, [], ◌∷◌, ◌+◌, map, get_or, take, length, refl, sym, ap, subst, append_assoc, append-nil}
+use Rattle.std.specs.List.{All}
+use Rattle.std.proofs.lemmas.List.Elements.{All-append, All-nil}
+use Rattle.std.proofs.lemmas.List.{map-append, take_more}
+use Rattle.plan_model.specs.declared.alignment.At.{At}
+use Rattle.plan_model.specs.declared.alignment.LineAt.{LineAt}
+use Rattle.plan_model.specs.declared.buffers.Home.{Home}
+use Rattle.plan_model.specs.declared.flow.Units.{Units}
+use Rattle.plan_text.specs.declared.word.Word.{Word}
+use Rattle.plan_text.specs.Lines.{fits, line, line_text, lines_text, spaced, word_text, IsLine, Line}
+use Rattle.plan_text.specs.Printing.{Appends}
+use Rattle.plan_text.proofs.LineLaws.{lines_text-append, one_line}
+
+-- the word and some numbers of a line have been written
+pub record IsWrittenTo (w : Word) (old new : List ℕ) (ns : List ℕ) : Type 0 where
+  pub joined : new ≡ old ++ (word_text w ++ spaced ns)
+  pub below : All (λ n. n < 2 ^ 64) ns
+
+pub nothing_appended : (old : List ℕ) → Appends old old []
+nothing_appended old = record { joined = sym (append-nil old); are_lines = All-nil IsLine }
+
+pub appended : (old mid new : List ℕ) (xs ys : List Line) → Appends old mid xs → Appends mid new ys → Appends old new (xs ++ ys)
+appended old mid new xs ys a b = record {
+  joined = b.joined ∙ ap (λ t. t ++ lines_text ys) a.joined ∙ append_assoc old (lines_text xs) (lines_text ys) ∙ ap (λ t. old ++ t) (sym (lines_text-append xs ys));
+  are_lines = All-append IsLine xs ys a.are_lines b.are_lines;
+}
+
+-- one more row has been written
+pub row_appended : {X : Type 0} (f : X → Line) (rows : List X) (i : ℕ) (d : X) (old mid new : List ℕ) → Appends old mid (map f (take i rows)) → i < length rows
+    → Appends mid new (f (get_or rows i d) ∷ []) → Appends old new (map f (take (i + 1) rows))
+row_appended f rows i d old mid new h lt row =
+    subst (Appends old new) (sym (ap (map f) (take_more rows i d lt) ∙ map-append f (take i rows) (get_or rows i d ∷ [])))
+    (appended old mid new (map f (take i rows)) (f (get_or rows i d) ∷ []) h row)
+
+-- what a read past the end gives
+abbrev pub no_at : At
+no_at = record { uid = record { 0 = 0 }; at = 0 }
+
+abbrev pub no_delay : LineAt
+no_delay = record { connection = 0; delay = 0 }
+
+abbrev pub no_arc : Units
+no_arc = record { tail = 0; head = 0; units = 0 }
+
+abbrev pub no_home : Home
+no_home = record { uid = record { 0 = 0 }; channel = 0; buffer = 0 }
