@@ -7,10 +7,13 @@ use Rattle.plan_model.specs.declared.alignment.At.{At}
 use Rattle.plan_model.specs.declared.alignment.LineAt.{LineAt}
 use Rattle.plan_model.specs.declared.buffers.Home.{Home}
 use Rattle.plan_model.specs.declared.flow.Units.{Units}
+use Rattle.plan_model.specs.declared.plan.Plan.{Plan}
 use Rattle.plan_text.specs.declared.word.Word.{Word}
 use Rattle.plan_text.specs.Lines.{fits, line, line_text, lines_text, spaced, word_text, IsLine, Line}
 use Rattle.plan_text.specs.Printing.{Appends}
+use Rattle.plan_text.specs.Texts.{in_order, sections_of, text_of, IsInRange}
 use Rattle.plan_text.proofs.LineLaws.{lines_text-append, one_line}
+use Rattle.plan_text.proofs.ReadLaws.{in_order-push}
 
 -- the word and some numbers of a line have been written
 pub record IsWrittenTo (w : Word) (old new : List ℕ) (ns : List ℕ) : Type 0 where
@@ -45,3 +48,23 @@ no_arc = record { tail = 0; head = 0; units = 0 }
 
 abbrev pub no_home : Home
 no_home = record { uid = record { 0 = 0 }; channel = 0; buffer = 0 }
+
+-- these sections have been written
+pub record IsWritten (text : List ℕ) (gs : List (List Line)) : Type 0 where
+  pub all : Appends [] text (in_order gs)
+
+pub nothing_written : (text : List ℕ) → text ≡ [] → IsWritten text []
+nothing_written text none = record { all = subst (λ t. Appends [] t []) (sym none) (nothing_appended []) }
+
+pub written_on : (mid new : List ℕ) (gs : List (List Line)) (ls ks : List Line) → IsWritten mid gs → Appends mid new ls → ls ≡ ks → IsWritten new (gs ++ ks ∷ [])
+written_on mid new gs ls ks h row same = record {
+  all = subst (Appends [] new) (sym (in_order-push gs ks)) (appended [] mid new (in_order gs) ks h.all (subst (Appends mid new) same row))
+}
+
+pub written_text : (p : Plan) (text : List ℕ) → IsWritten text (sections_of p) → text ≡ text_of p
+unfolding text_of
+written_text p text h = h.all.joined
+
+pub written_in_range : (p : Plan) (text : List ℕ) → IsWritten text (sections_of p) → IsInRange p
+unfolding IsInRange
+written_in_range p text h = h.all.are_lines

@@ -22,7 +22,7 @@ use Rattle.plan_text.proofs.SectionLaws.{leads_lines, many_read, nothing_read, o
 pub record Stands (todo : List Section) (text : List ℕ) (gs : List (List Line)) (rest : List ℕ) (count : ℕ) : Type 0 where
   pub read : IsReadTo order todo text (in_order gs) rest count
 
-in_order-push : (gs : List (List Line)) (g : List Line) → in_order (gs ++ g ∷ []) ≡ in_order gs ++ g
+pub in_order-push : (gs : List (List Line)) (g : List Line) → in_order (gs ++ g ∷ []) ≡ in_order gs ++ g
 in_order-push gs g = flat_map-append (λ ls. ls) gs (g ∷ []) ∙ ap (λ t. in_order gs ++ t) (append-nil g)
 
 pub stands_none : (text : List ℕ) → Stands order text [] text 0
