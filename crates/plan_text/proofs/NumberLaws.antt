@@ -4,7 +4,7 @@ use Rattle.std.specs.List.{All}
 use Rattle.std.specs.Fmt.{decimal}
 use Rattle.std.proofs.lemmas.List.Elements.{All-append, All-cons, All-head, All-nil, All-tail}
 use Rattle.plan_text.specs.Lines.{spaced}
-use Rattle.plan_text.specs.Numbers.{BeginsWithNumber, BeginsWithNumbers, NoDigitFirst, NoNumber, NoNumbers}
+use Rattle.plan_text.specs.Numbers.{BeginsWithNumber, NoDigitFirst, NoNumber, NoNumbers}
 use Rattle.plan_text.proofs.DigitLaws.{number_unique}
 
 pub spaced_stops : (ns rest : List ℕ) → NoDigitFirst (spaced ns ++ 10 ∷ rest)

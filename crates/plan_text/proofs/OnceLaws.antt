@@ -1,13 +1,13 @@
 -- A text is read in one way: the first bad line is one number, and lines that lead to the end have none.
 use Rattle.std.proofs.Common.{◌≡◌, ◌+◌, ◌&&◌, ◌∙◌, ◌++◌, ℕ, Bool, true, false, not, List, [], ◌∷◌, length, refl, sym, ap, ap₂, subst, append_assoc, append-nil, inl, inr}
-use Rattle.std.specs.List.{All, flat_map, list_all}
+use Rattle.std.specs.List.{All, list_all}
 use Rattle.std.specs.Str.{bytes_eq}
 use Rattle.std.proofs.lemmas.Bool.{false≢true}
 use Rattle.std.proofs.lemmas.List.Elements.{All-append, All-cons, All-head, All-nil, All-tail}
 use Rattle.std.proofs.lemmas.Slice.Eq.{bytes_eq-Decides}
 use Rattle.plan_text.specs.declared.word.Word.{Word}
 use Rattle.plan_text.specs.Lines.{line, line_text, lines_text, word_text, IsLine, Line}
-use Rattle.plan_text.specs.Order.{many, one, order, BeginsWithLine, IsFirstBad, Leads, Next, NoLine, Section}
+use Rattle.plan_text.specs.Order.{many, one, order, IsFirstBad, Leads, Next, NoLine, Section}
 use Rattle.plan_text.specs.Texts.{in_order}
 use Rattle.plan_text.proofs.DigitLaws.{both}
 use Rattle.plan_text.proofs.LineLaws.{line_unique}
@@ -130,9 +130,14 @@ rows_lead : (w : Word) (todo : List Section) (rows ls : List Line) (left : List 
     → Leads todo ls left → Leads (many w ∷ todo) (rows ++ ls) left
 rows_lead w todo [] ls left some words lines h = skip_many w todo ls left some h
 rows_lead w todo (r ∷ rows) ls left some words lines h =
-    let P : Line → Type 0 = λ l. l.word ≡ w in
-    (many w ∷ todo, (All-head IsLine r rows lines, inl (sym (All-head P r rows words), refl),
-    rows_lead w todo rows ls left some (All-tail P r rows words) (All-tail IsLine r rows lines) h))
+    let P : Line → Type 0 = λ l. l.word ≡ w in (
+      many w ∷ todo,
+      (
+        All-head IsLine r rows lines,
+        inl (sym (All-head P r rows words), refl),
+        rows_lead w todo rows ls left some (All-tail P r rows words) (All-tail IsLine r rows lines) h,
+      ),
+    )
 
 -- they lead to the end
 pub sections_lead : (ss : List Section) (gs : List (List Line)) → is_closed ss ≡ true → AreSections ss gs → All IsLine (in_order gs) → Leads ss (in_order gs) []
@@ -151,6 +156,7 @@ sections_lead (many w ∷ ss) (g ∷ gs) closed are lines =
     front_of : (xs ys : List Line) → All IsLine (xs ++ ys) → All IsLine xs
     front_of [] ys all = All-nil IsLine
     front_of (x ∷ xs) ys all = All-cons IsLine x xs (All-head IsLine x (xs ++ ys) all) (front_of xs ys (All-tail IsLine x (xs ++ ys) all))
+
     back_of : (xs ys : List Line) → All IsLine (xs ++ ys) → All IsLine ys
     back_of [] ys all = all
     back_of (x ∷ xs) ys all = back_of xs ys (All-tail IsLine x (xs ++ ys) all)

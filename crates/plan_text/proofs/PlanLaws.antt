@@ -1,5 +1,5 @@
 -- A text has one plan, and no bad line.
-use Rattle.std.proofs.Common.{◌≡◌, ◌∙◌, ℕ, List, [], ◌∷◌, get_or, map, refl, sym, ap, ap₂}
+use Rattle.std.proofs.Common.{◌≡◌, ℕ, List, [], ◌∷◌, get_or, map, refl, ap, ap₂}
 use Rattle.std.specs.List.{All}
 use Rattle.std.proofs.lemmas.List.Elements.{All-cons, All-nil}
 use Rattle.graph_model.specs.declared.graph.Uid.{Uid}
@@ -13,7 +13,7 @@ use Rattle.plan_model.specs.declared.schedule.Wave.{Wave}
 use Rattle.plan_text.specs.declared.word.Word.{Word}
 use Rattle.plan_text.specs.declared.word.Word.TheVariants as word
 use Rattle.plan_text.specs.Laws.{TextHasNoBad, TextHasOnePlan}
-use Rattle.plan_text.specs.Lines.{line, IsLine, Line}
+use Rattle.plan_text.specs.Lines.{Line}
 use Rattle.plan_text.specs.Order.{order}
 use Rattle.plan_text.specs.Texts.{arc_line, at_line, delay_line, home_line, lines_of, names_of, sections_of, text_of, wave_line, IsInRange}
 use Rattle.plan_text.proofs.LineLaws.{lines_unique}
@@ -24,10 +24,49 @@ words_of w f [] is = All-nil (λ (l : Line). l.word ≡ w)
 words_of w f (x ∷ xs) is = All-cons (λ (l : Line). l.word ≡ w) (f x) (map f xs) (is x) (words_of w f xs is)
 
 are_sections : (p : Plan) → AreSections order (sections_of p)
-are_sections p =
-    (1 ∷ [], (refl, (p.latency ∷ [], (refl, (names_of p.path, (refl, (words_of word.At at_line p.at (λ a. refl), (words_of word.Line delay_line p.lines (λ d. refl),
-    (p.total ∷ [], (refl, (words_of word.Arc arc_line p.arcs (λ e. refl), (p.bound ∷ [], (refl, (words_of word.Wave wave_line p.waves (λ w. refl),
-    (words_of word.Home home_line p.homes (λ h. refl), (p.channels ∷ [], (refl, (p.peak ∷ [], (refl, ([], (refl, refl)))))))))))))))))))))
+are_sections p = (
+  1 ∷ [],
+  (
+    refl,
+    (
+      p.latency ∷ [],
+      (
+        refl,
+        (
+          names_of p.path,
+          (
+            refl,
+            (
+              words_of word.At at_line p.at (λ a. refl),
+              (
+                words_of word.Line delay_line p.lines (λ d. refl),
+                (
+                  p.total ∷ [],
+                  (
+                    refl,
+                    (
+                      words_of word.Arc arc_line p.arcs (λ e. refl),
+                      (
+                        p.bound ∷ [],
+                        (
+                          refl,
+                          (
+                            words_of word.Wave wave_line p.waves (λ w. refl),
+                            (words_of word.Home home_line p.homes (λ h. refl), (p.channels ∷ [], (refl, (p.peak ∷ [], (refl, ([], (refl, refl))))))),
+                          ),
+                        ),
+                      ),
+                    ),
+                  ),
+                ),
+              ),
+            ),
+          ),
+        ),
+      ),
+    ),
+  ),
+)
 
 pub text_has_no_bad : TextHasNoBad
 unfolding text_of IsInRange

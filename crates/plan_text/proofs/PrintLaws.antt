@@ -1,5 +1,5 @@
 -- Texts that are written line by line.
-use Rattle.std.proofs.Common.{◌≡◌, ◌<◌, ◌^◌, ◌∙◌, ◌++◌, ℕ, List, [], ◌∷◌, ◌+◌, map, get_or, take, length, refl, sym, ap, subst, append_assoc, append-nil}
+use Rattle.std.proofs.Common.{◌≡◌, ◌<◌, ◌^◌, ◌∙◌, ◌++◌, ℕ, List, [], ◌∷◌, ◌+◌, map, get_or, take, length, sym, ap, subst, append_assoc, append-nil}
 use Rattle.std.specs.List.{All}
 use Rattle.std.proofs.lemmas.List.Elements.{All-append, All-nil}
 use Rattle.std.proofs.lemmas.List.{map-append, take_more}
@@ -9,10 +9,10 @@ use Rattle.plan_model.specs.declared.buffers.Home.{Home}
 use Rattle.plan_model.specs.declared.flow.Units.{Units}
 use Rattle.plan_model.specs.declared.plan.Plan.{Plan}
 use Rattle.plan_text.specs.declared.word.Word.{Word}
-use Rattle.plan_text.specs.Lines.{fits, line, line_text, lines_text, spaced, word_text, IsLine, Line}
+use Rattle.plan_text.specs.Lines.{lines_text, spaced, word_text, IsLine, Line}
 use Rattle.plan_text.specs.Printing.{Appends}
 use Rattle.plan_text.specs.Texts.{in_order, sections_of, text_of, IsInRange}
-use Rattle.plan_text.proofs.LineLaws.{lines_text-append, one_line}
+use Rattle.plan_text.proofs.LineLaws.{lines_text-append}
 use Rattle.plan_text.proofs.ReadLaws.{in_order-push}
 
 -- the word and some numbers of a line have been written
@@ -58,7 +58,7 @@ nothing_written text none = record { all = subst (λ t. Appends [] t []) (sym no
 
 pub written_on : (mid new : List ℕ) (gs : List (List Line)) (ls ks : List Line) → IsWritten mid gs → Appends mid new ls → ls ≡ ks → IsWritten new (gs ++ ks ∷ [])
 written_on mid new gs ls ks h row same = record {
-  all = subst (Appends [] new) (sym (in_order-push gs ks)) (appended [] mid new (in_order gs) ks h.all (subst (Appends mid new) same row))
+  all = subst (Appends [] new) (sym (in_order-push gs ks)) (appended [] mid new (in_order gs) ks h.all (subst (Appends mid new) same row));
 }
 
 pub written_text : (p : Plan) (text : List ℕ) → IsWritten text (sections_of p) → text ≡ text_of p

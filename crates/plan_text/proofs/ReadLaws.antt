@@ -1,6 +1,6 @@
 -- How far the text of a plan has been read.
-use Rattle.std.proofs.Common.{◌≡◌, ◌+◌, ◌==◌, ◌&&◌, ◌∙◌, ◌++◌, ℕ, Bool, true, false, List, [], ◌∷◌, length, map, Result, Ok, Err, refl, sym, ap, subst, append_assoc, append-nil, arith, slice_index}
-use Rattle.std.specs.List.{All, flat_map}
+use Rattle.std.proofs.Common.{◌≡◌, ◌+◌, ◌==◌, ◌∙◌, ◌++◌, ℕ, Bool, true, false, List, [], ◌∷◌, length, map, Result, Ok, Err, refl, sym, ap, subst, append-nil, arith, slice_index}
+use Rattle.std.specs.List.{All}
 use Rattle.std.specs.Result.{IsErrAnd}
 use Rattle.std.proofs.lemmas.Bool.{eqb-true, false≢true}
 use Rattle.std.proofs.lemmas.List.Concat.{flat_map-append}
@@ -10,10 +10,10 @@ use Rattle.plan_model.specs.declared.plan.Plan.{Plan}
 use Rattle.plan_text.specs.declared.fault.PlanFault.{PlanFault}
 use Rattle.plan_text.specs.declared.word.Word.{Word}
 use Rattle.plan_text.specs.declared.word.Word.TheVariants as word
-use Rattle.plan_text.specs.Lines.{fits, line, lines_text, IsLine, Line}
+use Rattle.plan_text.specs.Lines.{fits, lines_text, IsLine, Line}
 use Rattle.plan_text.specs.Order.{many, one, order, IsFirstBad, Section}
 use Rattle.plan_text.specs.Reading.{HasRead, IfFault, ReadsMany, WantsLine}
-use Rattle.plan_text.specs.Texts.{arc_line, at_line, delay_line, home_line, in_order, lines_of, names_of, sections_of, sole, text_of, wave_line, IsInRange}
+use Rattle.plan_text.specs.Texts.{arc_line, at_line, delay_line, home_line, in_order, names_of, sections_of, sole, text_of, wave_line, IsInRange}
 use Rattle.plan_text.proofs.DigitLaws.{both}
 use Rattle.plan_text.proofs.NumberLaws.{nil_of}
 use Rattle.plan_text.proofs.SectionLaws.{leads_lines, many_read, nothing_read, one_read, stuck_end, stuck_one, IsReadTo}
@@ -31,13 +31,13 @@ stands_none text = record { read = nothing_read order text }
 pub stands_one : (todo : List Section) (text : List ℕ) (gs : List (List Line)) (mid : List ℕ) (count : ℕ) (w : Word) (ns rest : List ℕ) (after : ℕ)
     → Stands (one w ∷ todo) text gs mid count → HasRead w mid count rest after ns → Stands todo text (gs ++ sole w ns ∷ []) rest after
 stands_one todo text gs mid count w ns rest after h read = record {
-  read = subst (λ ls. IsReadTo order todo text ls rest after) (sym (in_order-push gs (sole w ns))) (one_read order todo text (in_order gs) mid count w ns rest after h.read read)
+  read = subst (λ ls. IsReadTo order todo text ls rest after) (sym (in_order-push gs (sole w ns))) (one_read order todo text (in_order gs) mid count w ns rest after h.read read);
 }
 
 pub stands_many : (todo : List Section) (text : List ℕ) (gs : List (List Line)) (mid : List ℕ) (count : ℕ) (w : Word) (ls : List Line) (rest : List ℕ) (after : ℕ)
     → Stands (many w ∷ todo) text gs mid count → ReadsMany w mid count rest after ls → Stands todo text (gs ++ ls ∷ []) rest after
 stands_many todo text gs mid count w ls rest after h read = record {
-  read = subst (λ ks. IsReadTo order todo text ks rest after) (sym (in_order-push gs ls)) (many_read order todo text (in_order gs) mid count w ls rest after h.read read)
+  read = subst (λ ks. IsReadTo order todo text ks rest after) (sym (in_order-push gs ls)) (many_read order todo text (in_order gs) mid count w ls rest after h.read read);
 }
 
 -- the line that is wanted is the bad one

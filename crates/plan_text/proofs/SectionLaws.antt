@@ -4,7 +4,7 @@ use Rattle.std.specs.List.{All}
 use Rattle.std.proofs.lemmas.List.{length-append}
 use Rattle.std.proofs.lemmas.List.Elements.{All-cons, All-head, All-nil, All-tail}
 use Rattle.plan_text.specs.declared.word.Word.{Word}
-use Rattle.plan_text.specs.Lines.{line, line_text, lines_text, IsLine, Line}
+use Rattle.plan_text.specs.Lines.{line, lines_text, IsLine, Line}
 use Rattle.plan_text.specs.Order.{many, one, BeginsWithLine, IsFirstBad, Leads, Next, NoLine, Section}
 use Rattle.plan_text.specs.Reading.{HasRead, ReadsMany}
 use Rattle.plan_text.proofs.LineLaws.{lines_text-append, one_line}
@@ -86,7 +86,7 @@ many_read ss todo text good mid count w (l ∷ ls) rest after h all =
     let words = all.read.words in
     let lines = all.read.are_lines in
     let first = leads_on ss good h.left l (many w ∷ todo) h.leads (All-head IsLine l ls lines)
-        (h.reach l.word (many w ∷ todo) (inl (sym (All-head P l ls words), refl))) in
+    (h.reach l.word (many w ∷ todo) (inl (sym (All-head P l ls words), refl))) in
     let rows = leads_rows ss (good ++ l ∷ []) w todo ls (All-tail P l ls words) (All-tail IsLine l ls lines) first in
     record {
       left = many w ∷ todo;

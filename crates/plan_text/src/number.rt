@@ -57,10 +57,7 @@ fn number(text: &[u8]) -> Option<(u64, &[u8])>
 }
 
 /// The numbers of a line, each after a space, and what stands after the line's end.
-pub(crate) fn numbers(
-    alloc: Global,
-    text: &[u8],
-) -> Result<Option<(List<u64>, &[u8])>, AllocError>
+pub(crate) fn numbers(alloc: Global, text: &[u8]) -> Result<Option<(List<u64>, &[u8])>, AllocError>
     ensures { IfOk result (λ o. MatchOption o (NoNumbers text.now) (λ p. BeginsWithNumbers text.now p.0 p.1.now)) }
 {
     let mut found = List::new(alloc);

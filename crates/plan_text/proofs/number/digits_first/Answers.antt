@@ -1,4 +1,4 @@
-use Rattle.std.proofs.Common.{◌∙◌, sym, ap, take, drop}
+use Rattle.std.proofs.Common.{◌∙◌, ap, take, drop}
 use Rattle.std.specs.Char.{is_ascii_digit}
 use Rattle.std.proofs.lemmas.List.Folds.{length-prefix_len}
 use Rattle.plan_text.proofs.number.digits_first.Goals as goal

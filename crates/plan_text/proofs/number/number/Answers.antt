@@ -1,4 +1,3 @@
-use Rattle.std.proofs.Common.{◌∙◌, sym}
 use Rattle.plan_text.proofs.DigitLaws.{front_digits, number_found, number_missing}
 use Rattle.plan_text.proofs.number.number.Goals as goal
 

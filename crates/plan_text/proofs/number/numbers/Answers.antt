@@ -1,6 +1,4 @@
-use Rattle.std.proofs.Common.{◌≡◌, ◌∷◌, ◌∙◌, ap, List, ℕ}
-use Rattle.plan_text.specs.Numbers.{NoNumbers}
-use Rattle.plan_text.proofs.NumberLaws.{none_after, none_bad, none_other, nil_of, none_nil, read_one, IsReadTo}
+use Rattle.plan_text.proofs.NumberLaws.{none_after, none_bad, none_other, nil_of, none_nil, read_one}
 use Rattle.plan_text.proofs.number.numbers.Goals as goal
 
 pub returns-then-first-ne32 : goal.returns-then-first-ne32

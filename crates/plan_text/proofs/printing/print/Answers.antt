@@ -1,4 +1,4 @@
-use Rattle.std.proofs.Common.{◌≡◌, ◌∙◌, map, refl, ap}
+use Rattle.std.proofs.Common.{◌∙◌, map, refl, ap}
 use Rattle.std.specs.Prelude.{string_bytes}
 use Rattle.plan_text.specs.declared.word.Word.TheVariants as word
 use Rattle.plan_text.specs.Texts.{arc_line, at_line, delay_line, home_line, names_of, sole, wave_line}

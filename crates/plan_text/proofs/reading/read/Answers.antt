@@ -122,9 +122,9 @@ returns-clause-ok c =
     let s12 = stands_one _ _ _ _ _ word.Peak c.in_ok-peak.peak c.one-7.new.self.rest.now c.one-7.new.self.count s11 c.in_ok-peak.ensures in
     let s13 = stands_one _ _ _ _ _ word.End c.in_ok-end.end c.one-8.new.self.rest.now c.one-8.new.self.count s12 c.in_ok-end.ensures in
     let of = is_of _ c.in_ok-version.version c.in_ok-latency.latency c.in_ok-path.path c.in_ok-total.total c.in_ok-bound.bound c.in_ok-channels.channels c.in_ok-peak.peak c.in_ok-end.end
-        (first_version c.in_ok-version.version c.in_ok-version.ensures.begins.is_line.fit) (sym c.as_slice.ensures ∙ c.only.ensures) (sym c.as_slice-2.ensures ∙ sym c.in_ok-nodes.ensures)
-        (sym c.as_slice-3.ensures ∙ c.only-2.ensures) (sym c.as_slice-4.ensures ∙ c.only-3.ensures) (rw c.small.ensures (sym c.as_slice-5.ensures ∙ c.only-4.ensures))
-        (sym c.as_slice-6.ensures ∙ c.only-5.ensures) (no_numbers c.in_ok-end.end c.in_ok-end.ensures.begins.is_line.fit) in
+    (first_version c.in_ok-version.version c.in_ok-version.ensures.begins.is_line.fit) (sym c.as_slice.ensures ∙ c.only.ensures) (sym c.as_slice-2.ensures ∙ sym c.in_ok-nodes.ensures)
+    (sym c.as_slice-3.ensures ∙ c.only-2.ensures) (sym c.as_slice-4.ensures ∙ c.only-3.ensures) (rw c.small.ensures (sym c.as_slice-5.ensures ∙ c.only-4.ensures))
+    (sym c.as_slice-6.ensures ∙ c.only-5.ensures) (no_numbers c.in_ok-end.end c.in_ok-end.ensures.begins.is_line.fit) in
     whole _ c.args.bytes.now _ c.one-8.new.self.rest.now c.one-8.new.self.count _ s13 of c.is_empty.ensures c.if-not-is_empty.false
 
 pub returns-clause-in_range : goal.returns-clause-in_range
@@ -144,7 +144,7 @@ returns-clause-in_range c =
     let s12 = stands_one _ _ _ _ _ word.Peak c.in_ok-peak.peak c.one-7.new.self.rest.now c.one-7.new.self.count s11 c.in_ok-peak.ensures in
     let s13 = stands_one _ _ _ _ _ word.End c.in_ok-end.end c.one-8.new.self.rest.now c.one-8.new.self.count s12 c.in_ok-end.ensures in
     let of = is_of _ c.in_ok-version.version c.in_ok-latency.latency c.in_ok-path.path c.in_ok-total.total c.in_ok-bound.bound c.in_ok-channels.channels c.in_ok-peak.peak c.in_ok-end.end
-        (first_version c.in_ok-version.version c.in_ok-version.ensures.begins.is_line.fit) (sym c.as_slice.ensures ∙ c.only.ensures) (sym c.as_slice-2.ensures ∙ sym c.in_ok-nodes.ensures)
-        (sym c.as_slice-3.ensures ∙ c.only-2.ensures) (sym c.as_slice-4.ensures ∙ c.only-3.ensures) (rw c.small.ensures (sym c.as_slice-5.ensures ∙ c.only-4.ensures))
-        (sym c.as_slice-6.ensures ∙ c.only-5.ensures) (no_numbers c.in_ok-end.end c.in_ok-end.ensures.begins.is_line.fit) in
+    (first_version c.in_ok-version.version c.in_ok-version.ensures.begins.is_line.fit) (sym c.as_slice.ensures ∙ c.only.ensures) (sym c.as_slice-2.ensures ∙ sym c.in_ok-nodes.ensures)
+    (sym c.as_slice-3.ensures ∙ c.only-2.ensures) (sym c.as_slice-4.ensures ∙ c.only-3.ensures) (rw c.small.ensures (sym c.as_slice-5.ensures ∙ c.only-4.ensures))
+    (sym c.as_slice-6.ensures ∙ c.only-5.ensures) (no_numbers c.in_ok-end.end c.in_ok-end.ensures.begins.is_line.fit) in
     whole_in_range _ c.args.bytes.now _ c.one-8.new.self.rest.now c.one-8.new.self.count s13 of
