@@ -1,8 +1,9 @@
 -- A text has one plan, and no bad line.
-use Rattle.std.proofs.Common.{◌≡◌, ℕ, List, [], ◌∷◌, get_or, map, refl, ap, ap₂}
+use Rattle.std.proofs.Common.{◌≡◌, ℕ, List, [], ◌∷◌, get_or, map, refl, ap, ap₂, Ok, Err}
 use Rattle.std.specs.List.{All}
 use Rattle.std.proofs.lemmas.List.Elements.{All-cons, All-nil}
 use Rattle.graph_model.specs.declared.graph.Uid.{Uid}
+use Rattle.graph_model.specs.declared.refused.Refused.TheVariants.{Fault, Memory}
 use Rattle.graph_model.proofs.NameFacts.{same_uid}
 use Rattle.plan_model.specs.declared.alignment.At.{At}
 use Rattle.plan_model.specs.declared.alignment.LineAt.{LineAt}
@@ -12,7 +13,7 @@ use Rattle.plan_model.specs.declared.plan.Plan.{Plan}
 use Rattle.plan_model.specs.declared.schedule.Wave.{Wave}
 use Rattle.plan_text.specs.declared.word.Word.{Word}
 use Rattle.plan_text.specs.declared.word.Word.TheVariants as word
-use Rattle.plan_text.specs.Laws.{TextHasNoBad, TextHasOnePlan}
+use Rattle.plan_text.specs.Laws.{ReadingIsExact, TextHasNoBad, TextHasOnePlan}
 use Rattle.plan_text.specs.Lines.{Line}
 use Rattle.plan_text.specs.Order.{order}
 use Rattle.plan_text.specs.Texts.{arc_line, at_line, delay_line, home_line, lines_of, names_of, sections_of, text_of, wave_line, IsInRange}
@@ -142,3 +143,8 @@ pub text_has_one_plan : TextHasOnePlan
 unfolding text_of IsInRange
 text_has_one_plan a b fits_a fits_b same =
     same_plan a b (sections_unique order (sections_of a) (sections_of b) refl (are_sections a) (are_sections b) (lines_unique (lines_of a) (lines_of b) fits_a fits_b same))
+
+pub reading_is_exact : ReadingIsExact
+reading_is_exact p (Ok q) fits same fits_q bad = ap Ok (text_has_one_plan p q fits fits_q same)
+reading_is_exact p (Err (Fault f)) fits same fits_q bad = absurd (text_has_no_bad p f.line fits bad)
+reading_is_exact p (Err Memory) fits same fits_q bad = tt

@@ -3,10 +3,6 @@ use Rattle.std.proofs.Common.{◌≡◌, ◌<◌, ◌^◌, ◌∙◌, ◌++◌, 
 use Rattle.std.specs.List.{All}
 use Rattle.std.proofs.lemmas.List.Elements.{All-append, All-nil}
 use Rattle.std.proofs.lemmas.List.{map-append, take_more}
-use Rattle.plan_model.specs.declared.alignment.At.{At}
-use Rattle.plan_model.specs.declared.alignment.LineAt.{LineAt}
-use Rattle.plan_model.specs.declared.buffers.Home.{Home}
-use Rattle.plan_model.specs.declared.flow.Units.{Units}
 use Rattle.plan_model.specs.declared.plan.Plan.{Plan}
 use Rattle.plan_text.specs.declared.word.Word.{Word}
 use Rattle.plan_text.specs.Lines.{lines_text, spaced, word_text, IsLine, Line}
@@ -35,19 +31,6 @@ pub row_appended : {X : Type 0} (f : X → Line) (rows : List X) (i : ℕ) (d : 
 row_appended f rows i d old mid new h lt row =
     subst (Appends old new) (sym (ap (map f) (take_more rows i d lt) ∙ map-append f (take i rows) (get_or rows i d ∷ [])))
     (appended old mid new (map f (take i rows)) (f (get_or rows i d) ∷ []) h row)
-
--- what a read past the end gives
-abbrev pub no_at : At
-no_at = record { uid = record { 0 = 0 }; at = 0 }
-
-abbrev pub no_delay : LineAt
-no_delay = record { connection = 0; delay = 0 }
-
-abbrev pub no_arc : Units
-no_arc = record { tail = 0; head = 0; units = 0 }
-
-abbrev pub no_home : Home
-no_home = record { uid = record { 0 = 0 }; channel = 0; buffer = 0 }
 
 -- these sections have been written
 pub record IsWritten (text : List ℕ) (gs : List (List Line)) : Type 0 where

@@ -1,6 +1,6 @@
 //! Laws of the definitions.
 
-ghost use Rattle.plan_text.specs.Laws.{FirstBadIsOne, TextHasNoBad, TextHasOnePlan};
+ghost use Rattle.plan_text.specs.Laws.{FirstBadIsOne, ReadingIsExact, TextHasNoBad, TextHasOnePlan};
 
 /// A text has one plan.
 pub fn text_has_one_plan()
@@ -15,4 +15,9 @@ pub fn first_bad_is_one()
 /// The text of a plan has no bad line.
 pub fn text_has_no_bad()
     ensures { TextHasNoBad }
+{}
+
+/// Reading the text of a plan gives that plan, or fails for want of memory.
+pub fn reading_is_exact()
+    ensures { ReadingIsExact }
 {}

@@ -1,6 +1,6 @@
 //! Lines, one by one.
 
-ghost use Rattle.std.specs.Prelude.{◌≡◌, ◌+◌, ◌*◌, ◌<◌, ◌^◌, length, IfOk};
+ghost use Rattle.std.specs.Prelude.{◌≡◌, ◌+◌, ◌*◌, ◌<◌, ◌^◌, ◌==◌, length, IfOk};
 ghost use Rattle.std.specs.List.{list_all};
 ghost use Rattle.graph_model.specs.declared.refused.Refused.TheVariants.{Fault};
 ghost use Rattle.plan_text.specs.Lines.{fits, is_small};
@@ -79,6 +79,13 @@ impl Lines<'_> {
             Some(numbers) => Ok(numbers),
             None => Err(self.bad()),
         }
+    }
+
+    /// Whether nothing is left.
+    pub fn is_at_end(&self) -> bool
+        ensures { result ≡ (length self.now.rest.now == 0) }
+    {
+        self.rest.is_empty()
     }
 
     /// That the next line is a bad one.

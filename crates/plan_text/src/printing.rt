@@ -37,11 +37,46 @@ fn names(alloc: Global, nodes: &[Uid]) -> Result<List<u64>, AllocError>
     Ok(names)
 }
 
+fn put_position(text: &mut String, row: &At) -> Result<(), AllocError>
+    ensures { OnOk result (Appends (string_bytes text.old) (string_bytes text.new) (at_line row.now ∷ [])) }
+{
+    let numbers = [row.uid.0 as u64, row.at];
+    put_line(text, Word::At, &numbers)
+}
+
+fn put_delay(text: &mut String, row: &LineAt) -> Result<(), AllocError>
+    ensures { OnOk result (Appends (string_bytes text.old) (string_bytes text.new) (delay_line row.now ∷ [])) }
+{
+    let numbers = [row.connection as u64, row.delay];
+    put_line(text, Word::Line, &numbers)
+}
+
+fn put_arc(text: &mut String, row: &Units) -> Result<(), AllocError>
+    ensures { OnOk result (Appends (string_bytes text.old) (string_bytes text.new) (arc_line row.now ∷ [])) }
+{
+    let numbers = [row.tail as u64, row.head as u64, row.units];
+    put_line(text, Word::Arc, &numbers)
+}
+
+fn put_wave(alloc: Global, text: &mut String, row: &Wave) -> Result<(), AllocError>
+    ensures { OnOk result (Appends (string_bytes text.old) (string_bytes text.new) (wave_line row.now ∷ [])) }
+{
+    let names = names(alloc, row.nodes.as_slice())?;
+    put_line(text, Word::Wave, names.as_slice())
+}
+
+fn put_home(text: &mut String, row: &Home) -> Result<(), AllocError>
+    ensures { OnOk result (Appends (string_bytes text.old) (string_bytes text.new) (home_line row.now ∷ [])) }
+{
+    let numbers = [row.uid.0 as u64, row.channel as u64, row.buffer as u64];
+    put_line(text, Word::Home, &numbers)
+}
+
 fn put_positions(text: &mut String, rows: &[At]) -> Result<(), AllocError>
     ensures { OnOk result (Appends (string_bytes text.old) (string_bytes text.new) (map at_line rows.now)) }
 {
     for row in rows {
-        put_line(text, Word::At, &[row.uid.0 as u64, row.at])?;
+        put_position(text, row)?;
     }
     Ok(())
 }
@@ -50,7 +85,7 @@ fn put_delays(text: &mut String, rows: &[LineAt]) -> Result<(), AllocError>
     ensures { OnOk result (Appends (string_bytes text.old) (string_bytes text.new) (map delay_line rows.now)) }
 {
     for row in rows {
-        put_line(text, Word::Line, &[row.connection as u64, row.delay])?;
+        put_delay(text, row)?;
     }
     Ok(())
 }
@@ -59,11 +94,7 @@ fn put_arcs(text: &mut String, rows: &[Units]) -> Result<(), AllocError>
     ensures { OnOk result (Appends (string_bytes text.old) (string_bytes text.new) (map arc_line rows.now)) }
 {
     for row in rows {
-        put_line(
-            text,
-            Word::Arc,
-            &[row.tail as u64, row.head as u64, row.units],
-        )?;
+        put_arc(text, row)?;
     }
     Ok(())
 }
@@ -72,8 +103,7 @@ fn put_waves(alloc: Global, text: &mut String, rows: &[Wave]) -> Result<(), Allo
     ensures { OnOk result (Appends (string_bytes text.old) (string_bytes text.new) (map wave_line rows.now)) }
 {
     for row in rows {
-        let names = names(alloc, row.nodes.as_slice())?;
-        put_line(text, Word::Wave, names.as_slice())?;
+        put_wave(alloc, text, row)?;
     }
     Ok(())
 }
@@ -82,11 +112,7 @@ fn put_homes(text: &mut String, rows: &[Home]) -> Result<(), AllocError>
     ensures { OnOk result (Appends (string_bytes text.old) (string_bytes text.new) (map home_line rows.now)) }
 {
     for row in rows {
-        put_line(
-            text,
-            Word::Home,
-            &[row.uid.0 as u64, row.channel as u64, row.buffer as u64],
-        )?;
+        put_home(text, row)?;
     }
     Ok(())
 }

@@ -38,7 +38,7 @@ pub fn read(alloc: Global, bytes: &[u8]) -> Result<Plan, Refused<PlanFault>>
     let channels = lines.one(alloc, Word::Channels)?;
     let peak = lines.one(alloc, Word::Peak)?;
     let end = lines.one(alloc, Word::End)?;
-    if !lines.rest.is_empty() {
+    if !lines.is_at_end() {
         return Err(lines.bad());
     }
     Ok(Plan {

@@ -2,6 +2,7 @@ use crate::{PlanFault, print, read};
 use graph_model::{List, Refused, Uid};
 use plan_model::{At, Home, LineAt, Plan, Units, Wave};
 use std::alloc::{AllocError, Global};
+use std::fmt::Write;
 use std::test::Fail;
 
 /// A graph of four nodes: 1 leads through 3 and through 4 into 2.
@@ -103,49 +104,23 @@ fn a_plan_is_printed_and_read(rt: HostRuntime) -> Result<(), Fail> {
 }
 
 /// The text with a line written so many times.
-fn with_line(alloc: Global, text: &str, line: usize, times: usize) -> Result<String, AllocError> {
+fn with_line(alloc: Global, text: &str, line: u64, times: u32) -> Result<String, AllocError> {
     let mut changed = String::new(alloc);
-    for (k, part) in text.lines().enumerate() {
-        for _ in 0..if k == line { times } else { 1 } {
-            changed.push_str(part)?;
-            changed.push('\n')?;
+    let mut number = 1;
+    for part in text.lines() {
+        for _ in 0..if number == line { times } else { 1 } {
+            writeln!(changed, "{part}")?;
         }
+        number += 1;
     }
     Ok(changed)
 }
 
-/// The bad line where a line of `FOUR` is left out, and where it is written twice; 0 for a text of another plan.
-const LEFT_OUT_AND_TWICE: [(u64, u64); 28] = [
-    (1, 2),
-    (2, 3),
-    (3, 4),
-    (0, 0),
-    (0, 0),
-    (0, 0),
-    (0, 0),
-    (0, 0),
-    (0, 0),
-    (0, 0),
-    (0, 0),
-    (0, 0),
-    (0, 0),
-    (14, 15),
-    (0, 0),
-    (0, 0),
-    (0, 0),
-    (18, 19),
-    (0, 0),
-    (0, 0),
-    (0, 0),
-    (0, 0),
-    (0, 0),
-    (0, 0),
-    (0, 0),
-    (26, 27),
-    (27, 28),
-    (28, 29),
-];
+/// The lines of `FOUR` that stand once, numbered from 1. Left out, it is the bad line's number, and written twice the
+/// number after it. Without one of the others, or with it twice, the text is that of another plan.
+const ONCE: [u64; 8] = [1, 2, 3, 14, 18, 26, 27, 28];
 
+/// The first bad line, or 0.
 fn bad_line(alloc: Global, text: &str) -> Result<u64, AllocError> {
     Ok(match read_text(alloc, text.as_bytes())? {
         Ok(_) => 0,
@@ -156,11 +131,16 @@ fn bad_line(alloc: Global, text: &str) -> Result<u64, AllocError> {
 #[test]
 fn every_line_left_out_and_twice(rt: HostRuntime) -> Result<(), Fail> {
     let alloc = rt.alloc();
-    for (k, (left_out, twice)) in LEFT_OUT_AND_TWICE.iter().enumerate() {
-        let text = with_line(alloc, FOUR, k, 0)?;
-        assert_eq!(rt; bad_line(alloc, text.as_str())?, *left_out);
-        let text = with_line(alloc, FOUR, k, 2)?;
-        assert_eq!(rt; bad_line(alloc, text.as_str())?, *twice);
+    for line in 1..29 {
+        let (left_out, twice) = if ONCE.contains(&line) {
+            (line, line + 1)
+        } else {
+            (0, 0)
+        };
+        let text = with_line(alloc, FOUR, line, 0)?;
+        assert_eq!(rt; bad_line(alloc, text.as_str())?, left_out);
+        let text = with_line(alloc, FOUR, line, 2)?;
+        assert_eq!(rt; bad_line(alloc, text.as_str())?, twice);
     }
     Ok(())
 }

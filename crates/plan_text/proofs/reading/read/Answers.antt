@@ -87,8 +87,8 @@ returns-in_err-end-clause-fault c =
     let s12 = stands_one _ _ _ _ _ word.Peak c.in_ok-peak.peak c.one-7.new.self.rest.now c.one-7.new.self.count s11 c.in_ok-peak.ensures in
     refused _ _ _ _ _ word.End c.one-8.new.self.rest.now c.one-8.new.self.count c.in_err-end.field-0.0 c.from_residual-in_err-end.result s12 c.in_err-end.ensures c.from_residual-in_err-end.ensures.1
 
-pub returns-then-not-is_empty-clause-fault : goal.returns-then-not-is_empty-clause-fault
-returns-then-not-is_empty-clause-fault c =
+pub returns-then-not-is_at_end-clause-fault : goal.returns-then-not-is_at_end-clause-fault
+returns-then-not-is_at_end-clause-fault c =
     let s0 = stands_none c.args.bytes.now in
     let s1 = stands_one _ _ _ _ _ word.Plan c.in_ok-version.version c.one.new.self.rest.now c.one.new.self.count s0 c.in_ok-version.ensures in
     let s2 = stands_one _ _ _ _ _ word.Latency c.in_ok-latency.latency c.one-2.new.self.rest.now c.one-2.new.self.count s1 c.in_ok-latency.ensures in
@@ -103,7 +103,7 @@ returns-then-not-is_empty-clause-fault c =
     let s11 = stands_one _ _ _ _ _ word.Channels c.in_ok-channels.channels c.one-6.new.self.rest.now c.one-6.new.self.count s10 c.in_ok-channels.ensures in
     let s12 = stands_one _ _ _ _ _ word.Peak c.in_ok-peak.peak c.one-7.new.self.rest.now c.one-7.new.self.count s11 c.in_ok-peak.ensures in
     let s13 = stands_one _ _ _ _ _ word.End c.in_ok-end.end c.one-8.new.self.rest.now c.one-8.new.self.count s12 c.in_ok-end.ensures in
-    rw c.bad.ensures (ended c.args.bytes.now _ c.one-8.new.self.rest.now c.one-8.new.self.count _ _ s13 c.is_empty.ensures c.if-not-is_empty.true refl)
+    rw c.bad.ensures (ended c.args.bytes.now _ c.one-8.new.self.rest.now c.one-8.new.self.count _ _ s13 c.is_at_end.ensures c.if-not-is_at_end.true refl)
 
 pub returns-clause-ok : goal.returns-clause-ok
 returns-clause-ok c =
@@ -125,7 +125,7 @@ returns-clause-ok c =
     (first_version c.in_ok-version.version c.in_ok-version.ensures.begins.is_line.fit) (sym c.as_slice.ensures ∙ c.only.ensures) (sym c.as_slice-2.ensures ∙ sym c.in_ok-nodes.ensures)
     (sym c.as_slice-3.ensures ∙ c.only-2.ensures) (sym c.as_slice-4.ensures ∙ c.only-3.ensures) (rw c.small.ensures (sym c.as_slice-5.ensures ∙ c.only-4.ensures))
     (sym c.as_slice-6.ensures ∙ c.only-5.ensures) (no_numbers c.in_ok-end.end c.in_ok-end.ensures.begins.is_line.fit) in
-    whole _ c.args.bytes.now _ c.one-8.new.self.rest.now c.one-8.new.self.count _ s13 of c.is_empty.ensures c.if-not-is_empty.false
+    whole _ c.args.bytes.now _ c.one-8.new.self.rest.now c.one-8.new.self.count _ s13 of c.is_at_end.ensures c.if-not-is_at_end.false
 
 pub returns-clause-in_range : goal.returns-clause-in_range
 returns-clause-in_range c =
