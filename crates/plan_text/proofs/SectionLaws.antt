@@ -10,7 +10,7 @@ use Rattle.plan_text.specs.Reading.{HasRead, ReadsMany}
 use Rattle.plan_text.proofs.LineLaws.{lines_text-append, one_line}
 
 -- the good lines so far; what may come next, and stands there, may come next in the sections `todo`
-pub record IsReadTo (ss todo : List Section) (text : List ℕ) (good : List Line) (rest : List ℕ) (count : ℕ) : Type 0 where
+pub record Progress (ss todo : List Section) (text : List ℕ) (good : List Line) (rest : List ℕ) (count : ℕ) : Type 0 where
   pub left : List Section
   pub joined : text ≡ lines_text good ++ rest
   pub leads : Leads ss good left
@@ -19,7 +19,7 @@ pub record IsReadTo (ss todo : List Section) (text : List ℕ) (good : List Line
   pub open_end : left ≡ [] → todo ≡ []
   pub counted : count ≡ length good
 
-pub nothing_read : (ss : List Section) (text : List ℕ) → IsReadTo ss ss text [] text 0
+pub nothing_read : (ss : List Section) (text : List ℕ) → Progress ss ss text [] text 0
 nothing_read ss text = record {
   left = ss;
   joined = refl;
@@ -45,7 +45,7 @@ counted_on good ls count after k c d l = let e : length (good ++ ls) ≡ length 
 
 -- one line has been read
 pub one_read : (ss todo : List Section) (text : List ℕ) (good : List Line) (mid : List ℕ) (count : ℕ) (w : Word) (ns rest : List ℕ) (after : ℕ)
-    → IsReadTo ss (one w ∷ todo) text good mid count → HasRead w mid count rest after ns → IsReadTo ss todo text (good ++ line w ns ∷ []) rest after
+    → Progress ss (one w ∷ todo) text good mid count → HasRead w mid count rest after ns → Progress ss todo text (good ++ line w ns ∷ []) rest after
 one_read ss todo text good mid count w ns rest after h read = record {
   left = todo;
   joined = joined_on text good mid (line w ns ∷ []) rest h.joined (read.begins.joined ∙ ap (λ t. t ++ rest) (sym (one_line (line w ns))));
@@ -68,7 +68,7 @@ leads_rows ss good w todo (l ∷ ls) words lines h =
 
 -- all the lines of a section that repeats have been read
 pub many_read : (ss todo : List Section) (text : List ℕ) (good : List Line) (mid : List ℕ) (count : ℕ) (w : Word) (ls : List Line) (rest : List ℕ) (after : ℕ)
-    → IsReadTo ss (many w ∷ todo) text good mid count → ReadsMany w mid count rest after ls → IsReadTo ss todo text (good ++ ls) rest after
+    → Progress ss (many w ∷ todo) text good mid count → ReadsMany w mid count rest after ls → Progress ss todo text (good ++ ls) rest after
 many_read ss todo text good mid count w [] rest after h all = record {
   left = h.left;
   joined = joined_on text good mid [] rest h.joined all.read.joined;
@@ -103,7 +103,7 @@ many_read ss todo text good mid count w (l ∷ ls) rest after h all =
 
 -- the line that is wanted is not there
 pub stuck_one : (ss todo : List Section) (text : List ℕ) (good : List Line) (rest : List ℕ) (count : ℕ) (w : Word) (n : ℕ)
-    → IsReadTo ss (one w ∷ todo) text good rest count → NoLine w rest → n ≡ count + 1 → IsFirstBad ss text n
+    → Progress ss (one w ∷ todo) text good rest count → NoLine w rest → n ≡ count + 1 → IsFirstBad ss text n
 stuck_one ss todo text good rest count w n h stop number = record {
   good = good;
   rest = rest;
@@ -116,7 +116,7 @@ stuck_one ss todo text good rest count w n h stop number = record {
 }
 
 -- bytes are left after the last line
-pub stuck_end : (ss : List Section) (text : List ℕ) (good : List Line) (rest : List ℕ) (count n : ℕ) → IsReadTo ss [] text good rest count → (rest ≡ [] → ⊥) → n ≡ count + 1
+pub stuck_end : (ss : List Section) (text : List ℕ) (good : List Line) (rest : List ℕ) (count n : ℕ) → Progress ss [] text good rest count → (rest ≡ [] → ⊥) → n ≡ count + 1
     → IsFirstBad ss text n
 stuck_end ss text good rest count n h some number = record {
   good = good;

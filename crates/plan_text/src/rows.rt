@@ -96,7 +96,8 @@ impl Lines<'_> {
     /// The positions of all the lines `at` that follow.
     pub fn positions(&mut self, alloc: Global) -> Result<List<At>, AllocError>
         requires { 3 * self.old.count + length self.old.rest.now < 2 ^ 64 }
-        ensures { IfOk result (λ rows. ReadsMany word.At self.old.rest.now self.old.count self.new.rest.now self.new.count (map at_line rows)) }
+        ensures { IfOk result
+            (λ rows. ReadsMany word.At self.old.rest.now self.old.count self.new.rest.now self.new.count (map at_line rows)) }
     {
         let mut rows = List::new(alloc);
         while let Some(numbers) = self.next(alloc, Word::At)? {
@@ -108,7 +109,8 @@ impl Lines<'_> {
     /// The delay lines of all the lines `line` that follow.
     pub fn delays(&mut self, alloc: Global) -> Result<List<LineAt>, AllocError>
         requires { 3 * self.old.count + length self.old.rest.now < 2 ^ 64 }
-        ensures { IfOk result (λ rows. ReadsMany word.Line self.old.rest.now self.old.count self.new.rest.now self.new.count (map delay_line rows)) }
+        ensures { IfOk result
+            (λ rows. ReadsMany word.Line self.old.rest.now self.old.count self.new.rest.now self.new.count (map delay_line rows)) }
     {
         let mut rows = List::new(alloc);
         while let Some(numbers) = self.next(alloc, Word::Line)? {
@@ -120,7 +122,8 @@ impl Lines<'_> {
     /// The arcs of all the lines `arc` that follow.
     pub fn arcs(&mut self, alloc: Global) -> Result<List<Units>, AllocError>
         requires { 3 * self.old.count + length self.old.rest.now < 2 ^ 64 }
-        ensures { IfOk result (λ rows. ReadsMany word.Arc self.old.rest.now self.old.count self.new.rest.now self.new.count (map arc_line rows)) }
+        ensures { IfOk result
+            (λ rows. ReadsMany word.Arc self.old.rest.now self.old.count self.new.rest.now self.new.count (map arc_line rows)) }
     {
         let mut rows = List::new(alloc);
         while let Some(numbers) = self.next(alloc, Word::Arc)? {
@@ -132,7 +135,8 @@ impl Lines<'_> {
     /// The waves of all the lines `wave` that follow.
     pub fn waves(&mut self, alloc: Global) -> Result<List<Wave>, AllocError>
         requires { 3 * self.old.count + length self.old.rest.now < 2 ^ 64 }
-        ensures { IfOk result (λ rows. ReadsMany word.Wave self.old.rest.now self.old.count self.new.rest.now self.new.count (map wave_line rows)) }
+        ensures { IfOk result
+            (λ rows. ReadsMany word.Wave self.old.rest.now self.old.count self.new.rest.now self.new.count (map wave_line rows)) }
     {
         let mut rows = List::new(alloc);
         while let Some(numbers) = self.next(alloc, Word::Wave)? {
@@ -144,7 +148,8 @@ impl Lines<'_> {
     /// The buffers of all the lines `home` that follow.
     pub fn homes(&mut self, alloc: Global) -> Result<List<Home>, AllocError>
         requires { 3 * self.old.count + length self.old.rest.now < 2 ^ 64 }
-        ensures { IfOk result (λ rows. ReadsMany word.Home self.old.rest.now self.old.count self.new.rest.now self.new.count (map home_line rows)) }
+        ensures { IfOk result
+            (λ rows. ReadsMany word.Home self.old.rest.now self.old.count self.new.rest.now self.new.count (map home_line rows)) }
     {
         let mut rows = List::new(alloc);
         while let Some(numbers) = self.next(alloc, Word::Home)? {
