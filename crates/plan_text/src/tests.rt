@@ -103,15 +103,13 @@ fn a_plan_is_printed_and_read(rt: HostRuntime) -> Result<(), Fail> {
     Ok(())
 }
 
-/// The text with a line written so many times.
-fn with_line(alloc: Global, text: &str, line: u64, times: u32) -> Result<String, AllocError> {
+/// The text with the line at that index written so many times.
+fn with_line(alloc: Global, text: &str, at: usize, times: u32) -> Result<String, AllocError> {
     let mut changed = String::new(alloc);
-    let mut number = 1;
-    for part in text.lines() {
-        for _ in 0..if number == line { times } else { 1 } {
+    for (index, part) in text.lines().enumerate() {
+        for _ in 0..if index == at { times } else { 1 } {
             writeln!(changed, "{part}")?;
         }
-        number += 1;
     }
     Ok(changed)
 }
@@ -131,15 +129,16 @@ fn bad_line(alloc: Global, text: &str) -> Result<u64, AllocError> {
 #[test]
 fn every_line_left_out_and_twice(rt: HostRuntime) -> Result<(), Fail> {
     let alloc = rt.alloc();
-    for line in 1..29 {
+    for index in 0..28 {
+        let line = index as u64 + 1;
         let (left_out, twice) = if ONCE.contains(&line) {
             (line, line + 1)
         } else {
             (0, 0)
         };
-        let text = with_line(alloc, FOUR, line, 0)?;
+        let text = with_line(alloc, FOUR, index, 0)?;
         assert_eq!(rt; bad_line(alloc, text.as_str())?, left_out);
-        let text = with_line(alloc, FOUR, line, 2)?;
+        let text = with_line(alloc, FOUR, index, 2)?;
         assert_eq!(rt; bad_line(alloc, text.as_str())?, twice);
     }
     Ok(())
