@@ -1,0 +1,8 @@
+pub mod DigitLaws
+pub mod NumberLaws
+pub mod LineLaws
+pub mod SectionLaws
+pub mod OnceLaws
+pub mod PlanLaws
+pub mod ReadLaws
+pub mod PrintLaws

@@ -1,0 +1,8 @@
+use Rattle.std.proofs.Common.{map, take}
+use Rattle.std.specs.Prelude.{string_bytes}
+use Rattle.plan_text.specs.Printing.{Appends}
+use Rattle.plan_text.specs.Texts.{delay_line}
+use Rattle.plan_text.proofs.printing.put_delays.Given as goal
+
+abbrev pub invariant-loop-row : goal.invariant-loop-row
+invariant-loop-row l = Appends (string_bytes l.initial.text) (string_bytes l.text) (map delay_line (take l.row-index l.rows))
