@@ -1,0 +1,11 @@
+//! The checker of plans.
+#![tactic(auto)]
+
+mod graphs;
+mod lines;
+mod path;
+mod positions;
+mod live;
+mod network;
+mod flow;
+mod waves;
