@@ -5,3 +5,5 @@ pub mod LiveFacts
 pub mod WaveFacts
 pub mod Tests
 pub mod Filters
+pub mod FlowFacts
+pub mod NetworkFacts

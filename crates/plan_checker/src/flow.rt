@@ -12,7 +12,7 @@ ghost use Rattle.plan_model.specs.Networks.{least_or_zero};
 ghost use Rattle.plan_model.specs.Places.{IsArcAt, IsFirstBad};
 ghost use Rattle.plan_model.specs.Rules.{AreLiveNodes};
 ghost use Rattle.plan_checker.specs.Answers.{Judges};
-ghost use Rattle.plan_checker.specs.Networks.{difference};
+ghost use Rattle.plan_checker.specs.Networks.{difference, AreSmall};
 
 use crate::graphs::latency_of;
 use crate::network::{Constraint, between};
@@ -27,9 +27,9 @@ fn is_before(first: Units, second: Units) -> bool
 }
 
 /// Whether an entry of the flow is an arc of the network with some units, after the entry before it.
-fn is_arc(network: &[Constraint], arcs: &[Units], k: usize) -> bool
+fn is_arc(constraints: &[Constraint], arcs: &[Units], k: usize) -> bool
     requires { k < length arcs.now }
-    ensures { (g : Graph) (latency : ℕ) → map difference network.now ≡ network g latency
+    ensures { (g : Graph) (latency : ℕ) → map difference constraints.now ≡ network g latency
         → ((j : ℕ) → j < k → IsArcAt g latency arcs.now j)
         → MatchBool result (IsArcAt g latency arcs.now k) (IsArcAt g latency arcs.now k → ⊥) }
 {
@@ -37,19 +37,22 @@ fn is_arc(network: &[Constraint], arcs: &[Units], k: usize) -> bool
     if arc.units == 0 {
         return false;
     }
-    if between(network, arc.tail, arc.head).is_none() {
+    if between(constraints, arc.tail, arc.head).is_none() {
         return false;
     }
-    k == 0 || is_before(arcs[k - 1], arc)
+    if k == 0 {
+        return true;
+    }
+    is_before(arcs[k - 1], arc)
 }
 
 /// The entries of the flow are arcs of the network with some units, ascending by tail and then by head.
-pub(crate) fn arcs(network: &[Constraint], arcs: &[Units]) -> Option<u64>
-    ensures { (g : Graph) (latency : ℕ) → map difference network.now ≡ network g latency
+pub(crate) fn arcs(constraints: &[Constraint], arcs: &[Units]) -> Option<u64>
+    ensures { (g : Graph) (latency : ℕ) → map difference constraints.now ≡ network g latency
         → Judges result (AreArcs g latency arcs.now) (IsFirstBad (IsArcAt g latency arcs.now)) }
 {
     for k in 0..arcs.len() {
-        if !is_arc(network, arcs, k) {
+        if !is_arc(constraints, arcs, k) {
             return Some(k as u64);
         }
     }
@@ -137,13 +140,13 @@ pub(crate) fn need(live: &[u32], connections: &[Connection], arcs: &[Units]) -> 
 }
 
 /// The least difference between two points, and 0 where no arc joins them.
-fn least(network: &[Constraint], tail: u32, head: u32) -> i64
-    requires { All (λ a. unsigned_abs a.least ≤ 4294967296) network.now }
-    ensures value { (g : Graph) (latency : ℕ) → map difference network.now ≡ network g latency
+fn least(constraints: &[Constraint], tail: u32, head: u32) -> i64
+    requires { AreSmall constraints.now }
+    ensures value { (g : Graph) (latency : ℕ) → map difference constraints.now ≡ network g latency
         → result ≡ least_or_zero (arc_between g latency tail head) }
-    ensures size { unsigned_abs result ≤ 4294967296 }
+    ensures size { unsigned_abs result ≤ 2 ^ 32 }
 {
-    match between(network, tail, head) {
+    match between(constraints, tail, head) {
         Some(arc) => arc.least,
         None => 0,
     }
@@ -151,7 +154,7 @@ fn least(network: &[Constraint], tail: u32, head: u32) -> i64
 
 /// Units times a least difference.
 fn product(units: u64, least: i64) -> i128
-    requires { unsigned_abs least ≤ 4294967296 }
+    requires { unsigned_abs least ≤ 2 ^ 32 }
     ensures value { result ≡ pos units *ℤ least }
     ensures size { unsigned_abs result ≤ 2 ^ 96 }
 {
@@ -161,7 +164,7 @@ fn product(units: u64, least: i64) -> i128
 /// The sum and units times a least difference.
 fn plus_product(sum: i128, units: u64, least: i64) -> i128
     requires small { unsigned_abs sum ≤ 2 ^ 120 }
-    requires least { unsigned_abs least ≤ 4294967296 }
+    requires least { unsigned_abs least ≤ 2 ^ 32 }
     ensures value { result ≡ sum +ℤ (pos units *ℤ least) }
     ensures size { unsigned_abs result ≤ unsigned_abs sum + 2 ^ 96 }
 {
@@ -169,15 +172,15 @@ fn plus_product(sum: i128, units: u64, least: i64) -> i128
 }
 
 /// The sum of units times least differences.
-fn weight(network: &[Constraint], arcs: &[Units]) -> i128
-    requires leasts { All (λ a. unsigned_abs a.least ≤ 4294967296) network.now }
+fn weight(constraints: &[Constraint], arcs: &[Units]) -> i128
+    requires leasts { AreSmall constraints.now }
     requires few { length arcs.now ≤ 2 ^ 14 }
-    ensures value { (g : Graph) (latency : ℕ) → map difference network.now ≡ network g latency → result ≡ flow_weight g latency arcs.now }
+    ensures value { (g : Graph) (latency : ℕ) → map difference constraints.now ≡ network g latency → result ≡ flow_weight g latency arcs.now }
     ensures size { unsigned_abs result ≤ 2 ^ 110 }
 {
     let mut sum: i128 = 0;
     for arc in arcs {
-        sum = plus_product(sum, arc.units, least(network, arc.tail, arc.head));
+        sum = plus_product(sum, arc.units, least(constraints, arc.tail, arc.head));
     }
     sum
 }
@@ -198,18 +201,18 @@ fn latencies(graph: &Graph, connections: &[Connection]) -> u64
 /// The bound that the flow sets to every total: its weight, less the latencies of the live connections' sources.
 pub(crate) fn bound(
     graph: &Graph,
-    network: &[Constraint],
+    constraints: &[Constraint],
     connections: &[Connection],
     arcs: &[Units],
     bound: u64,
 ) -> Option<u64>
-    requires leasts { All (λ a. unsigned_abs a.least ≤ 4294967296) network.now }
+    requires leasts { AreSmall constraints.now }
     requires few_arcs { length arcs.now ≤ 2 ^ 14 }
     requires few { length connections.now ≤ 8192 }
-    ensures { (latency : ℕ) → map difference network.now ≡ network graph.now latency → connections.now ≡ live_connections graph.now
+    ensures { (latency : ℕ) → map difference constraints.now ≡ network graph.now latency → connections.now ≡ live_connections graph.now
         → Judges result (flow_bound graph.now latency arcs.now ≡ pos bound) (λ place. place ≡ bound) }
 {
-    if weight(network, arcs) - latencies(graph, connections) as i128 == bound as i128 {
+    if weight(constraints, arcs) - latencies(graph, connections) as i128 == bound as i128 {
         return None;
     }
     Some(bound)

@@ -2,6 +2,7 @@
 
 ghost use Rattle.std.specs.Prelude.{◌≡◌, ◌==◌, ℕ, List, map, IfOk};
 ghost use Rattle.std.specs.List.{common_prefix_len};
+ghost use Rattle.graph_model.specs.Paths.{live_nodes};
 ghost use Rattle.graph_model.specs.Sound.{IsSound};
 ghost use Rattle.graph_model.specs.declared.graph.Graph.{Graph};
 ghost use Rattle.plan_model.specs.Rules.{AreLiveNodes};
@@ -11,9 +12,9 @@ use connections::Checked;
 use plan_model::At;
 use std::alloc::{AllocError, Global};
 
-/// The uids of the live nodes, ascending.
-pub(crate) fn live_nodes(alloc: Global, g: &Checked) -> Result<Vec<u32>, AllocError>
-    ensures live { IfOk result (λ v. AreLiveNodes g.now v.items) }
+/// The uids of the live nodes, in the graph's order.
+pub(crate) fn live_uids(alloc: Global, g: &Checked) -> Result<Vec<u32>, AllocError>
+    ensures live { IfOk result (λ v. v.items ≡ live_nodes g.now) }
     ensures sound { IfOk result (λ _. IsSound g.now) }
 {
     let mut live = Vec::new(alloc);
@@ -22,6 +23,15 @@ pub(crate) fn live_nodes(alloc: Global, g: &Checked) -> Result<Vec<u32>, AllocEr
             live.push(node.uid.0)?;
         }
     }
+    Ok(live)
+}
+
+/// The uids of the live nodes, ascending.
+pub(crate) fn live_nodes(alloc: Global, g: &Checked) -> Result<Vec<u32>, AllocError>
+    ensures live { IfOk result (λ v. AreLiveNodes g.now v.items) }
+    ensures sound { IfOk result (λ _. IsSound g.now) }
+{
+    let mut live = live_uids(alloc, g)?;
     live.sort_unstable();
     Ok(live)
 }

@@ -1,14 +1,15 @@
 //! The network of a graph: its difference constraints.
 
 ghost use Rattle.std.specs.Prelude.{◌≡◌, ◌==◌, ◌≤◌, ◌<◌, ◌+◌, ◌^◌, ◌++◌, [], ◌∷◌, ◌&&◌, length, map, unsigned_abs, IfOk, OnOk};
-ghost use Rattle.std.specs.List.{All, find};
+ghost use Rattle.std.specs.List.{find};
 ghost use Rattle.std.specs.Option.{option_copied, option_map};
-ghost use Rattle.graph_model.specs.Paths.{live_nodes, live_connections};
+ghost use Rattle.graph_model.specs.Paths.{live_connections};
 ghost use Rattle.graph_model.specs.Sound.{IsSound, Fits};
 ghost use Rattle.plan_model.specs.Flows.{along, from_root, to_root, network, arc_between};
-ghost use Rattle.plan_checker.specs.Networks.{difference};
+ghost use Rattle.plan_checker.specs.Networks.{difference, AreSmall};
 
 use crate::graphs::latency_of;
+use crate::live::live_uids;
 use connections::Checked;
 use graph_model::Connection;
 use std::alloc::{AllocError, Global};
@@ -24,7 +25,7 @@ pub(crate) struct Constraint {
 /// The destination of a connection stands no earlier than the end of its source.
 fn along(g: &Checked, connection: Connection) -> Constraint
     ensures arc { difference result ≡ along g.now connection }
-    ensures least { unsigned_abs result.least ≤ 4294967296 }
+    ensures least { unsigned_abs result.least ≤ 2 ^ 32 }
 {
     Constraint {
         tail: connection.src.0,
@@ -40,7 +41,7 @@ fn add_along(
     connections: &[Connection],
 ) -> Result<(), AllocError>
     ensures arcs { OnOk result (map difference arcs.new.items ≡ map difference arcs.old.items ++ map (along g.now) connections.now) }
-    ensures leasts { OnOk result (All (λ a. unsigned_abs a.least ≤ 4294967296) arcs.old.items → All (λ a. unsigned_abs a.least ≤ 4294967296) arcs.new.items) }
+    ensures leasts { OnOk result (AreSmall arcs.old.items → AreSmall arcs.new.items) }
 {
     for connection in connections {
         arcs.push(along(g, *connection))?;
@@ -49,18 +50,16 @@ fn add_along(
 }
 
 /// No live node stands before 0.
-fn add_from_root(arcs: &mut Vec<Constraint>, g: &Checked) -> Result<(), AllocError>
-    ensures arcs { OnOk result (map difference arcs.new.items ≡ map difference arcs.old.items ++ map from_root (live_nodes g.now)) }
-    ensures leasts { OnOk result (All (λ a. unsigned_abs a.least ≤ 4294967296) arcs.old.items → All (λ a. unsigned_abs a.least ≤ 4294967296) arcs.new.items) }
+fn add_from_root(arcs: &mut Vec<Constraint>, live: &[u32]) -> Result<(), AllocError>
+    ensures arcs { OnOk result (map difference arcs.new.items ≡ map difference arcs.old.items ++ map from_root live.now) }
+    ensures leasts { OnOk result (AreSmall arcs.old.items → AreSmall arcs.new.items) }
 {
-    for (index, node) in g.graph().nodes.as_slice().iter().enumerate() {
-        if g.is_live(index as u32) {
-            arcs.push(Constraint {
-                tail: 0,
-                head: node.uid.0,
-                least: 0,
-            })?;
-        }
+    for uid in live {
+        arcs.push(Constraint {
+            tail: 0,
+            head: *uid,
+            least: 0,
+        })?;
     }
     Ok(())
 }
@@ -69,7 +68,7 @@ fn add_from_root(arcs: &mut Vec<Constraint>, g: &Checked) -> Result<(), AllocErr
 fn add_to_root(arcs: &mut Vec<Constraint>, g: &Checked, latency: u64) -> Result<(), AllocError>
     requires { latency ≤ 2 ^ 26 }
     ensures arcs { OnOk result (map difference arcs.new.items ≡ map difference arcs.old.items ++ to_root g.now latency) }
-    ensures leasts { OnOk result (All (λ a. unsigned_abs a.least ≤ 4294967296) arcs.old.items → All (λ a. unsigned_abs a.least ≤ 4294967296) arcs.new.items) }
+    ensures leasts { OnOk result (AreSmall arcs.old.items → AreSmall arcs.new.items) }
 {
     if g.is_live(g.input()) {
         arcs.push(Constraint {
@@ -96,11 +95,12 @@ pub(crate) fn network(
     requires live { connections.now ≡ live_connections g.now }
     requires small { latency ≤ 2 ^ 26 }
     ensures network { IfOk result (λ v. map difference v.items ≡ network g.now latency) }
-    ensures leasts { IfOk result (λ v. All (λ a. unsigned_abs a.least ≤ 4294967296) v.items) }
+    ensures leasts { IfOk result (λ v. AreSmall v.items) }
 {
+    let live = live_uids(alloc, g)?;
     let mut arcs = Vec::new(alloc);
     add_along(&mut arcs, g, connections)?;
-    add_from_root(&mut arcs, g)?;
+    add_from_root(&mut arcs, &live)?;
     add_to_root(&mut arcs, g, latency)?;
     Ok(arcs)
 }

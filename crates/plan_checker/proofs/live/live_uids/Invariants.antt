@@ -1,7 +1,7 @@
 use Rattle.std.proofs.Common.{◌≡◌, map, take, filter}
 use Rattle.graph_model.specs.Paths.{is_live}
 use Rattle.graph_model.specs.declared.graph.Node.{Node}
-use Rattle.plan_checker.proofs.live.live_nodes.Given as goal
+use Rattle.plan_checker.proofs.live.live_uids.Given as goal
 
 -- the live nodes so far
 abbrev pub invariant-loop-index : goal.invariant-loop-index
