@@ -1,0 +1,6 @@
+mod WaveFacts
+mod ReadOrder
+mod Joining
+mod LifeFacts
+mod TallyFacts
+mod TurnFacts

@@ -1,0 +1,75 @@
+//! The live ranges of a graph's values in a schedule, and how many buffers its waves need.
+//!
+//! A value is an output channel that a live connection reads. It is born in the wave of its node and dies in the last
+//! wave that reads it; the node that reads it there, where only one does, is its sole reader, and may bear its own value
+//! in the same buffer. [`lives`] finds the life of each value, [`needs`] the least number of buffers of each wave.
+//!
+//! It promises that the lives are those that the definitions give, and that each need is the count of the values that
+//! are alive in the wave, less those that take over the buffer of one that dies there.
+//!
+//! It stands on `connections` for sound graphs, and on `plan_model` for what values, lives and needs are. Needs speak of
+//! lives alone, of no graph and no plan.
+#![tactic(auto)]
+
+ghost use Rattle.std.specs.Prelude.{◌≡◌, ◌≤◌, ◌<◌, ℕ, length, slice_index, IfOk};
+ghost use Rattle.plan_model.specs.Buffers.{AreLives, need_of_wave};
+ghost use Rattle.plan_model.specs.Lives.{lives_of, values};
+ghost use Rattle.plan_model.specs.Schedules.{IsSchedule};
+
+mod grouped;
+mod nodes;
+mod reads;
+mod taken;
+mod tallies;
+#[cfg(test)]
+mod tests;
+
+use crate::grouped::lives_by;
+use crate::nodes::node_waves;
+use crate::reads::reads;
+use crate::taken::takers;
+use crate::tallies::{births, deaths, tally};
+use connections::Checked;
+use graph_model::List;
+use plan_model::{Life, Wave};
+use std::alloc::{AllocError, Global};
+
+/// The lives of the values of a graph in a schedule, ascending by node and then by channel.
+///
+/// It fails only for want of memory.
+pub fn lives(alloc: Global, g: &Checked, waves: &List<Wave>) -> Result<List<Life>, AllocError>
+    requires schedule { IsSchedule g.now waves.now }
+    ensures lives { IfOk result (λ lives. lives ≡ lives_of g.now waves.now (values g.now)) }
+    ensures usable { IfOk result (λ lives. AreLives lives (length waves.now)) }
+    ensures few { IfOk result (λ lives. length lives ≤ 8192) }
+{
+    let node_waves = node_waves(alloc, g.graph(), waves.as_slice())?;
+    let mut reads = reads(alloc, g, &node_waves)?;
+    reads.sort_unstable();
+    lives_by(alloc, &reads)
+}
+
+/// How many buffers each wave needs: one for each value that is alive in it, where a node may bear as many in place as
+/// die there with it as their sole reader.
+///
+/// There is one number for each wave, in their order. It fails only for want of memory.
+pub fn needs(alloc: Global, lives: &List<Life>, waves: u32) -> Result<List<u32>, AllocError>
+    requires lives { AreLives lives.now waves }
+    requires few { length lives.now ≤ 16384 }
+    ensures one_each { IfOk result (λ v. length v ≡ waves) }
+    ensures needs { IfOk result (λ v. (s : ℕ) → s < waves → slice_index v s ≡ need_of_wave lives.now s) }
+{
+    let lives = lives.as_slice();
+    let takers = takers(alloc, lives)?;
+    let born = tally(alloc, waves, births(alloc, lives)?)?;
+    let dead = tally(alloc, waves, deaths(alloc, lives)?)?;
+    let saved = tally(alloc, waves, births(alloc, &takers)?)?;
+    let mut needs = List::new(alloc);
+    let mut alive = 0;
+    for wave in 0..waves as usize {
+        alive += born[wave];
+        needs.push(alive - saved[wave])?;
+        alive -= dead[wave];
+    }
+    Ok(needs)
+}
