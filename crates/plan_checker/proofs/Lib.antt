@@ -7,3 +7,6 @@ pub mod Tests
 pub mod Filters
 pub mod FlowFacts
 pub mod NetworkFacts
+pub mod HomeFacts
+pub mod ApartFacts
+pub mod PeakFacts

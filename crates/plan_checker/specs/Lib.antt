@@ -1,3 +1,5 @@
 pub mod Answers
 pub mod Networks
 pub mod Waves
+pub mod Homes
+pub mod Buffers

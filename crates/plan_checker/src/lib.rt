@@ -9,3 +9,7 @@ mod live;
 mod network;
 mod flow;
 mod waves;
+mod channels;
+mod homes;
+mod peak;
+mod judged;
