@@ -53,4 +53,5 @@ module _ (g : Graph) (waves : List Wave) (lives : List Life) (homes : List Home)
     beside = subst (λ xs. AllZip (λ x h. (h.uid ≡ x.uid) × (h.channel ≡ x.channel)) xs homes) (sym lives_are) (each homes)
       where
         each : (hs : List Home) → AllZip (λ x h. (h.uid ≡ x.uid) × (h.channel ≡ x.channel)) (lives_of g waves (ports_of hs)) hs
-        each hs = ?
+        each [] = tt
+        each (h ∷ hs) = ((refl, refl), each hs)

@@ -10,3 +10,5 @@ pub mod NetworkFacts
 pub mod HomeFacts
 pub mod ApartFacts
 pub mod PeakFacts
+pub mod Pigeons
+pub mod FlowSizes

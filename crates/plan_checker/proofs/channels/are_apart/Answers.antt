@@ -18,7 +18,7 @@ returns c =
     let none : Life = record { uid = record { 0 = 0 }; channel = 0; born = 0; dies = 0; reader = None } in
     let at_j = slice_get-get_or lives j none (omega (arith, c.requires.first, c.requires.each)) in
     let at_k = slice_get-get_or lives k none (omega (arith, c.requires.second, c.requires.each)) in
-    same_test c.may_share.result ?
+    same_test c.may_share.result c.may_share.ensures
     (apart_by lives homes j k (get_or lives j none) (get_or lives k none) at_j at_k)
     (shares_by lives homes j k (get_or lives j none) (get_or lives k none) at_j at_k (get_or homes j nowhere) (get_or homes k nowhere)
     (slice_get-get_or homes j nowhere c.requires.first) (slice_get-get_or homes k nowhere c.requires.second) c.if-homes-j.false)
