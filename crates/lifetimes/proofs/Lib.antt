@@ -4,3 +4,4 @@ mod Joining
 mod LifeFacts
 mod TallyFacts
 mod TurnFacts
+mod NeedFacts

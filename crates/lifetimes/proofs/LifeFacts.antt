@@ -1,5 +1,5 @@
 -- The lives that follow from what the live connections read are those of the values.
-use Rattle.std.proofs.Common.{◌≡◌, ℕ, ◌+◌, ◌<◌, ◌≤◌, ◌==◌, ◌&&◌, Bool, true, false, cond, List, [], ◌∷◌, ◌++◌, get_or, take, length, map, filter, refl, sym, ap, subst, ◌∙◌, arith, IsPermutation, Some, None}
+use Rattle.std.proofs.Common.{◌≡◌, ℕ, ◌+◌, ◌<◌, ◌≤◌, ◌==◌, ◌&&◌, Bool, true, false, cond, List, [], ◌∷◌, ◌++◌, get_or, take, length, map, filter, refl, sym, ap, subst, ◌∙◌, arith, IsPermutation}
 use Rattle.std.specs.List.{All, Contains}
 use Rattle.std.specs.Cmp.{first_so, second_so}
 use Rattle.std.proofs.lemmas.Bool.{eqb-true}
@@ -14,7 +14,6 @@ use Rattle.graph_model.specs.Paths.{is_live, live_connections}
 use Rattle.graph_model.specs.Named.{uid_at}
 use Rattle.graph_model.specs.Sound.{IsSound}
 use Rattle.graph_model.specs.declared.graph.Node.{Node}
-use Rattle.graph_model.specs.declared.graph.Uid.{Uid}
 use Rattle.graph_model.specs.declared.graph.Connection.{Connection}
 use Rattle.graph_model.specs.declared.graph.Graph.{Graph}
 use Rattle.plan_model.specs.Lives.{Port, source, IsBefore, AreValues, values, lives_of, life_of, reads_of, IsLife}
@@ -118,9 +117,15 @@ module _ (g : Graph) (waves : List Wave) where
       several = λ e.
           let s = h.several e in
           let a = from_read s.0 s.2 s.4 in
-          let b = from_read s.1 s.3 s.5 in
-          (a.0, b.0, a.1, b.1, ap (λ (q : Read). q.wave) a.2 ∙ s.6, ap (λ (q : Read). q.wave) b.2 ∙ s.7,
-          (λ same. s.8 (sym (ap (λ (q : Read). q.reader) a.2) ∙ same ∙ ap (λ (q : Read). q.reader) b.2)));
+          let b = from_read s.1 s.3 s.5 in (
+            a.0,
+            b.0,
+            a.1,
+            b.1,
+            ap (λ (q : Read). q.wave) a.2 ∙ s.6,
+            ap (λ (q : Read). q.wave) b.2 ∙ s.7,
+            (λ same. s.8 (sym (ap (λ (q : Read). q.reader) a.2) ∙ same ∙ ap (λ (q : Read). q.reader) b.2)),
+          );
     }
 
     life_is : x ≡ life_of g waves x.uid x.channel

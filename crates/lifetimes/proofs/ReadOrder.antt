@@ -1,5 +1,5 @@
 -- Sorted reads ascend by (uid, channel).
-use Rattle.std.proofs.Common.{◌≡◌, ◌<◌, List, AllPairs, true, false, get_or, sym, ◌∙◌, ⊎_elim, arith, Ordering, nat_cmp}
+use Rattle.std.proofs.Common.{◌≡◌, List, AllPairs, true, false, get_or, sym, ◌∙◌, ⊎_elim, arith, Ordering, nat_cmp}
 use Rattle.std.specs.Cmp.{IsTotalOrder}
 use Rattle.std.specs.List.Sorted.{IsSorted}
 use Rattle.std.specs.Ordering.{is_lt, ordering_then}

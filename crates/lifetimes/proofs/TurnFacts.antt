@@ -1,11 +1,10 @@
 -- Counts kept for nodes in waves, and what is taken of them.
-use Rattle.std.proofs.Common.{◌≡◌, ℕ, ◌+◌, ◌-◌, ◌<◌, ◌≤◌, ◌==◌, ◌&&◌, Bool, true, false, cond, List, [], ◌∷◌, ◌++◌, length, get_or, take, min, refl, sym, ◌∙◌, ap, subst, arith, count_by, Option, Some, None, unwrap_or}
+use Rattle.std.proofs.Common.{◌≡◌, ℕ, ◌+◌, ◌-◌, ◌<◌, Bool, true, false, cond, List, [], ◌∷◌, ◌++◌, length, get_or, take, min, refl, sym, ◌∙◌, ap, arith, count_by, Some, unwrap_or}
 use Rattle.std.specs.Prelude.{nat_lt}
 use Rattle.std.specs.Cmp.{first_so, second_so}
 use Rattle.std.specs.HashMap.{HashMap, get}
 use Rattle.std.proofs.lemmas.Bool.{eqb-true}
 use Rattle.std.proofs.lemmas.Bool.Decides.{nat_tests}
-use Rattle.std.proofs.lemmas.List.{take_more}
 use Rattle.plan_model.specs.Buffers.{is_born_of, is_freed}
 use Rattle.plan_model.specs.declared.buffers.Life.{Life}
 use Rattle.plan_model.proofs.Counts.{bit}
@@ -64,40 +63,40 @@ module _ (lives : List Life) (i : ℕ) (d : Life) (l : i < length lives) (left n
     (some : took ≡ nat_lt 0 (left (get_or lives i d).born (get_or lives i d).uid.0))
     (now : (s a : ℕ) → new s a ≡ left s a - cond (is_born_of s a (get_or lives i d)) 1 0)
   where
-  -- what is left for its node
-  pub left_more : (s a : ℕ) → new s a ≡ count_by (is_freed s a) lives - count_by (is_born_of s a) (take (i + 1) lives)
-  left_more s a = omega (arith, was s a, now s a, count_by-more (is_born_of s a) lives i d l)
+    -- what is left for its node
+    pub left_more : (s a : ℕ) → new s a ≡ count_by (is_freed s a) lives - count_by (is_born_of s a) (take (i + 1) lives)
+    left_more s a = omega (arith, was s a, now s a, count_by-more (is_born_of s a) lives i d l)
 
-  -- what has been taken over
-  pub taken_more : (takers more : List Life) → ((s a : ℕ) → count_by (is_born_of s a) takers ≡ min (count_by (is_born_of s a) (take i lives)) (count_by (is_freed s a) lives))
-      → more ≡ cond took (takers ++ get_or lives i d ∷ []) takers
-      → (s a : ℕ) → count_by (is_born_of s a) more ≡ min (count_by (is_born_of s a) (take (i + 1) lives)) (count_by (is_freed s a) lives)
-  taken_more takers more so_far is s a = go took (is_born_of s a (get_or lives i d)) refl is some
-    where
-      more_born : count_by (is_born_of s a) (take (i + 1) lives) ≡ count_by (is_born_of s a) (take i lives) + bit (is_born_of s a (get_or lives i d))
-      more_born = count_by-more (is_born_of s a) lives i d l
+    -- what has been taken over
+    pub taken_more : (takers more : List Life) → ((s a : ℕ) → count_by (is_born_of s a) takers ≡ min (count_by (is_born_of s a) (take i lives)) (count_by (is_freed s a) lives))
+        → more ≡ cond took (takers ++ get_or lives i d ∷ []) takers
+        → (s a : ℕ) → count_by (is_born_of s a) more ≡ min (count_by (is_born_of s a) (take (i + 1) lives)) (count_by (is_freed s a) lives)
+    taken_more takers more so_far is s a = go took (is_born_of s a (get_or lives i d)) refl is some
+      where
+        more_born : count_by (is_born_of s a) (take (i + 1) lives) ≡ count_by (is_born_of s a) (take i lives) + bit (is_born_of s a (get_or lives i d))
+        more_born = count_by-more (is_born_of s a) lives i d l
 
-      pushed : count_by (is_born_of s a) (takers ++ get_or lives i d ∷ []) ≡ count_by (is_born_of s a) takers + bit (is_born_of s a (get_or lives i d))
-      pushed = count_by-push (is_born_of s a) takers (get_or lives i d)
+        pushed : count_by (is_born_of s a) (takers ++ get_or lives i d ∷ []) ≡ count_by (is_born_of s a) takers + bit (is_born_of s a (get_or lives i d))
+        pushed = count_by-push (is_born_of s a) takers (get_or lives i d)
 
-      here : is_born_of s a (get_or lives i d) ≡ true → left (get_or lives i d).born (get_or lives i d).uid.0 ≡ left s a
-      here e =
-          let at = bears (get_or lives i d) s a e in
-          let born = at.0 in
-          let uid = at.1 in
-          λ j. left (born j) (uid j)
+        here : is_born_of s a (get_or lives i d) ≡ true → left (get_or lives i d).born (get_or lives i d).uid.0 ≡ left s a
+        here e =
+            let at = bears (get_or lives i d) s a e in
+            let born = at.0 in
+            let uid = at.1 in
+            λ j. left (born j) (uid j)
 
-      go : (b t : Bool) → is_born_of s a (get_or lives i d) ≡ t → more ≡ cond b (takers ++ get_or lives i d ∷ []) takers → b ≡ nat_lt 0 (left (get_or lives i d).born (get_or lives i d).uid.0)
-          → count_by (is_born_of s a) more ≡ min (count_by (is_born_of s a) (take (i + 1) lives)) (count_by (is_freed s a) lives)
-      go true true e m n =
-          let one : bit (is_born_of s a (get_or lives i d)) ≡ 1 = ap bit e in
-          omega (arith, ap (λ ys. count_by (is_born_of s a) ys) m, pushed, more_born, so_far s a, was s a, here e, some_left (left (get_or lives i d).born (get_or lives i d).uid.0) n)
-      go true false e m n =
-          let none : bit (is_born_of s a (get_or lives i d)) ≡ 0 = ap bit e in
-          omega (arith, ap (λ ys. count_by (is_born_of s a) ys) m, pushed, more_born, so_far s a)
-      go false true e m n =
-          let one : bit (is_born_of s a (get_or lives i d)) ≡ 1 = ap bit e in
-          omega (arith, ap (λ ys. count_by (is_born_of s a) ys) m, more_born, so_far s a, was s a, here e, none_left (left (get_or lives i d).born (get_or lives i d).uid.0) n)
-      go false false e m n =
-          let none : bit (is_born_of s a (get_or lives i d)) ≡ 0 = ap bit e in
-          omega (arith, ap (λ ys. count_by (is_born_of s a) ys) m, more_born, so_far s a)
+        go : (b t : Bool) → is_born_of s a (get_or lives i d) ≡ t → more ≡ cond b (takers ++ get_or lives i d ∷ []) takers → b ≡ nat_lt 0 (left (get_or lives i d).born (get_or lives i d).uid.0)
+            → count_by (is_born_of s a) more ≡ min (count_by (is_born_of s a) (take (i + 1) lives)) (count_by (is_freed s a) lives)
+        go true true e m n =
+            let one : bit (is_born_of s a (get_or lives i d)) ≡ 1 = ap bit e in
+            omega (arith, ap (λ ys. count_by (is_born_of s a) ys) m, pushed, more_born, so_far s a, was s a, here e, some_left (left (get_or lives i d).born (get_or lives i d).uid.0) n)
+        go true false e m n =
+            let none : bit (is_born_of s a (get_or lives i d)) ≡ 0 = ap bit e in
+            omega (arith, ap (λ ys. count_by (is_born_of s a) ys) m, pushed, more_born, so_far s a)
+        go false true e m n =
+            let one : bit (is_born_of s a (get_or lives i d)) ≡ 1 = ap bit e in
+            omega (arith, ap (λ ys. count_by (is_born_of s a) ys) m, more_born, so_far s a, was s a, here e, none_left (left (get_or lives i d).born (get_or lives i d).uid.0) n)
+        go false false e m n =
+            let none : bit (is_born_of s a (get_or lives i d)) ≡ 0 = ap bit e in
+            omega (arith, ap (λ ys. count_by (is_born_of s a) ys) m, more_born, so_far s a)

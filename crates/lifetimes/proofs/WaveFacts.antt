@@ -1,7 +1,7 @@
 -- Waves of a schedule.
-use Rattle.std.proofs.Common.{◌≡◌, ℕ, ◌+◌, ◌<◌, ◌≤◌, Bool, not, List, [], ◌∷◌, length, map, ap, ◌∙◌, arith, ⊎_elim, Some, None, unwrap_or}
+use Rattle.std.proofs.Common.{◌≡◌, ◌<◌, ◌≤◌, Bool, not, List, [], ◌∷◌, length, map, ap, ◌∙◌, arith, ⊎_elim, Some, None, unwrap_or}
 use Rattle.std.specs.Prelude.{position}
-use Rattle.std.specs.List.{All, position_or_len, flat_map, filter}
+use Rattle.std.specs.List.{All, position_or_len, flat_map}
 use Rattle.std.proofs.lemmas.Bool.{cases_lt, lt-ltb, le-ltb, cond-true, cond-false}
 use Rattle.std.proofs.lemmas.List.{length-map, length-append}
 use Rattle.std.proofs.lemmas.List.Elements.{All-head, All-tail}

@@ -1,5 +1,5 @@
 -- Reads of values, and the lives that follow from them.
-use Rattle.std.specs.Prelude.{◌≡◌, ◌≢◌, ℕ, ◌≤◌, Option, Some, None, List, map, AllPairs}
+use Rattle.std.specs.Prelude.{◌≡◌, ◌≢◌, ◌≤◌, Some, None, List, map, AllPairs}
 use Rattle.std.specs.List.{All, Contains}
 use Rattle.graph_model.specs.Paths.{live_connections}
 use Rattle.graph_model.specs.declared.graph.Uid.{Uid}

@@ -28,7 +28,7 @@ use crate::grouped::lives_by;
 use crate::nodes::node_waves;
 use crate::reads::reads;
 use crate::taken::takers;
-use crate::tallies::{births, deaths, tally};
+use crate::tallies::{births, deaths};
 use connections::Checked;
 use graph_model::List;
 use plan_model::{Life, Wave};
@@ -61,9 +61,9 @@ pub fn needs(alloc: Global, lives: &List<Life>, waves: u32) -> Result<List<u32>,
 {
     let lives = lives.as_slice();
     let takers = takers(alloc, lives)?;
-    let born = tally(alloc, waves, births(alloc, lives)?)?;
-    let dead = tally(alloc, waves, deaths(alloc, lives)?)?;
-    let saved = tally(alloc, waves, births(alloc, &takers)?)?;
+    let born = births(alloc, lives, waves)?;
+    let dead = deaths(alloc, lives, waves)?;
+    let saved = births(alloc, &takers, waves)?;
     let mut needs = List::new(alloc);
     let mut alive = 0;
     for wave in 0..waves as usize {

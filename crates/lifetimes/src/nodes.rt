@@ -31,10 +31,17 @@ fn wave_of(waves: &[Wave], uid: Uid) -> u32
 }
 
 /// The wave of each node, by node index; of an idle one it is the number of waves.
-pub(crate) fn node_waves(alloc: Global, graph: &Graph, waves: &[Wave]) -> Result<Vec<u32>, AllocError>
+pub(crate) fn node_waves(
+    alloc: Global,
+    graph: &Graph,
+    waves: &[Wave],
+) -> Result<Vec<u32>, AllocError>
     requires { length waves.now < 2 ^ 32 }
     ensures { IfOk result (λ v. v.items ≡ map (λ n. wave_of waves.now n.uid.0) graph.now.nodes) }
 {
     let nodes = graph.nodes.as_slice();
-    nodes.iter().map(|node| wave_of(waves, node.uid)).collect(alloc)
+    nodes
+        .iter()
+        .map(|node| wave_of(waves, node.uid))
+        .collect(alloc)
 }

@@ -26,7 +26,11 @@ pub(crate) struct Read {
 }
 
 /// What each live connection reads, in the graph's order. The waves of the nodes come by node index.
-pub(crate) fn reads(alloc: Global, graph: &Checked, node_waves: &[u32]) -> Result<Vec<Read>, AllocError>
+pub(crate) fn reads(
+    alloc: Global,
+    graph: &Checked,
+    node_waves: &[u32],
+) -> Result<Vec<Read>, AllocError>
     requires { length node_waves.now ≡ length graph.now.nodes }
     ensures reads { IfOk result (λ v. (waves : List Wave) → node_waves.now ≡ map (λ n. wave_of waves n.uid.0) graph.now.nodes → v.items ≡ reads_in graph.now waves) }
     ensures sound { IfOk result (λ _. IsSound graph.now) }

@@ -24,7 +24,10 @@ fn freed(alloc: Global, lives: &[Life]) -> Result<HashMap<Turn, u32>, AllocError
     let mut freed = HashMap::new(alloc);
     for life in lives {
         if let Some(reader) = life.reader {
-            let turn = Turn { wave: life.dies, uid: reader.0 };
+            let turn = Turn {
+                wave: life.dies,
+                uid: reader.0,
+            };
             let others = freed.get(&turn).copied().unwrap_or(0);
             freed.insert(turn, others + 1)?;
         }
@@ -57,7 +60,10 @@ pub(crate) fn takers(alloc: Global, lives: &[Life]) -> Result<Vec<Life>, AllocEr
     let mut free = freed(alloc, lives)?;
     let mut takers = Vec::new(alloc);
     for life in lives {
-        let turn = Turn { wave: life.born, uid: life.uid.0 };
+        let turn = Turn {
+            wave: life.born,
+            uid: life.uid.0,
+        };
         if take(&mut free, turn) {
             takers.push(*life)?;
         }

@@ -1,13 +1,14 @@
-//! How often each number stands in a list.
+//! How many values are born and die in each wave.
 
-ghost use Rattle.std.specs.Prelude.{◌≡◌, ℕ, ◌<◌, ◌≤◌, ◌==◌, length, map, slice_index, count_by, IfOk};
+ghost use Rattle.std.specs.Prelude.{◌≡◌, ℕ, ◌<◌, ◌≤◌, ◌==◌, length, slice_index, count_by, IfOk};
 ghost use Rattle.std.specs.List.{All};
+ghost use Rattle.plan_model.specs.Buffers.{is_born, is_dying};
 
 use plan_model::Life;
 use std::alloc::{AllocError, Global};
 
 /// How often each of the numbers 0, 1, .. up to `limit - 1` stands in a list.
-pub(crate) fn tally(alloc: Global, limit: u32, numbers: Vec<u32>) -> Result<Vec<u32>, AllocError>
+fn tally(alloc: Global, limit: u32, numbers: Vec<u32>) -> Result<Vec<u32>, AllocError>
     requires within { All (λ n. n < limit) numbers.items }
     requires few { length numbers.items ≤ 16384 }
     ensures one_each { IfOk result (λ v. length v.items ≡ limit) }
@@ -20,16 +21,24 @@ pub(crate) fn tally(alloc: Global, limit: u32, numbers: Vec<u32>) -> Result<Vec<
     Ok(counts)
 }
 
-/// The waves in which the values are born.
-pub(crate) fn births(alloc: Global, lives: &[Life]) -> Result<Vec<u32>, AllocError>
-    ensures { IfOk result (λ v. v.items ≡ map (λ x. x.born) lives.now) }
+/// How many values are born in each wave.
+pub(crate) fn births(alloc: Global, lives: &[Life], waves: u32) -> Result<Vec<u32>, AllocError>
+    requires within { All (λ x. x.born < waves) lives.now }
+    requires few { length lives.now ≤ 16384 }
+    ensures one_each { IfOk result (λ v. length v.items ≡ waves) }
+    ensures births { IfOk result (λ v. (s : ℕ) → s < waves → slice_index v.items s ≡ count_by (is_born s) lives.now) }
 {
-    lives.iter().map(|life| life.born).collect(alloc)
+    let born = lives.iter().map(|life| life.born).collect(alloc)?;
+    tally(alloc, waves, born)
 }
 
-/// The waves in which they die.
-pub(crate) fn deaths(alloc: Global, lives: &[Life]) -> Result<Vec<u32>, AllocError>
-    ensures { IfOk result (λ v. v.items ≡ map (λ x. x.dies) lives.now) }
+/// How many values die in each wave.
+pub(crate) fn deaths(alloc: Global, lives: &[Life], waves: u32) -> Result<Vec<u32>, AllocError>
+    requires within { All (λ x. x.dies < waves) lives.now }
+    requires few { length lives.now ≤ 16384 }
+    ensures one_each { IfOk result (λ v. length v.items ≡ waves) }
+    ensures deaths { IfOk result (λ v. (s : ℕ) → s < waves → slice_index v.items s ≡ count_by (is_dying s) lives.now) }
 {
-    lives.iter().map(|life| life.dies).collect(alloc)
+    let dies = lives.iter().map(|life| life.dies).collect(alloc)?;
+    tally(alloc, waves, dies)
 }

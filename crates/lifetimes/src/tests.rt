@@ -22,7 +22,13 @@ fn one_by_one(alloc: Global, graph: &Checked) -> Result<List<Wave>, AllocError> 
 
 fn life(uid: u32, channel: u32, born: u32, dies: u32, reader: Option<u32>) -> Life {
     let reader = reader.map(Uid);
-    Life { uid: Uid(uid), channel, born, dies, reader }
+    Life {
+        uid: Uid(uid),
+        channel,
+        born,
+        dies,
+        reader,
+    }
 }
 
 #[test]

@@ -2,11 +2,9 @@ use Rattle.std.proofs.Common.{◌≡◌, ◌≤◌, ◌∙◌, AllPairs, List, l
 use Rattle.std.proofs.lemmas.Result.{IfOk-weaker}
 use Rattle.plan_model.specs.Buffers.{AreLives}
 use Rattle.plan_model.specs.Lives.{lives_of, values}
-use Rattle.plan_model.specs.declared.buffers.Life.{Life}
 use Rattle.plan_model.specs.declared.schedule.Wave.{Wave}
 use Rattle.lifetimes.specs.Reads.{reads_in, AreLivesBy, ReadBefore}
 use Rattle.lifetimes.specs.contracts.reads.ReadOrd.TheImpl.Laws.{total-law}
-use Rattle.lifetimes.specs.declared.reads.Read.{Read}
 use Rattle.lifetimes.proofs.LifeFacts.{lives_few, lives_found, lives_usable, reads_moved}
 use Rattle.lifetimes.proofs.ReadOrder.{reads_ascend}
 use Rattle.lifetimes.proofs.WaveFacts.{few_waves}

@@ -1,4 +1,4 @@
-use Rattle.std.proofs.Common.{◌≡◌, ◌<◌, ◌⊎◌, Some, inl, inr, sym, ◌∙◌, ap, not, arith, rules}
+use Rattle.std.proofs.Common.{inl, inr, sym, ◌∙◌, arith, rules}
 use Rattle.std.proofs.lemmas.Bool.{true≢false}
 use Rattle.lifetimes.proofs.Joining.{second_reader, known_reader}
 use Rattle.lifetimes.proofs.grouped.joined.Goals as goal

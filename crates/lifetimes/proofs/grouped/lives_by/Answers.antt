@@ -1,4 +1,4 @@
-use Rattle.std.proofs.Common.{◌≡◌, ◌≤◌, ◌<◌, ℕ, List, ◌∷◌, [], ◌++◌, length, get_or, take, ◌+◌, ◌-◌, arith, sym, ◌∙◌, ap, subst, refl, None}
+use Rattle.std.proofs.Common.{◌≡◌, ◌≤◌, ◌<◌, List, ◌∷◌, [], ◌++◌, length, get_or, take, ◌+◌, ◌-◌, arith, sym, ◌∙◌, ap, subst, refl, None}
 use Rattle.std.proofs.lemmas.Bool.{false≢true}
 use Rattle.std.proofs.lemmas.List.{take_more, get_or_default, length-set, length-append}
 use Rattle.std.proofs.lemmas.List.Elements.{All-get_or}

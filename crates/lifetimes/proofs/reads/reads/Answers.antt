@@ -1,13 +1,7 @@
-use Rattle.std.proofs.Common.{◌≡◌, ◌∙◌, ◌+◌, ◌∷◌, [], ◌++◌, ◌<◌, ℕ, Bool, List, cond, filter, get_or, length, map, take, refl, sym, ap, subst, arith}
-use Rattle.std.proofs.lemmas.List.{get_or-map, map-append}
-use Rattle.std.proofs.lemmas.List.Elements.{filter_more}
+use Rattle.std.proofs.Common.{◌≡◌, ◌∙◌, ◌∷◌, [], ◌++◌, ◌<◌, List, cond, get_or, length, sym, ap, subst}
 use Rattle.graph_model.specs.Paths.{is_live}
-use Rattle.graph_model.specs.Named.{uid_at}
 use Rattle.graph_model.specs.declared.graph.Connection.{Connection}
 use Rattle.graph_model.specs.declared.graph.Graph.{Graph}
-use Rattle.graph_model.specs.declared.graph.Node.{Node}
-use Rattle.plan_model.specs.Schedules.{wave_of}
-use Rattle.plan_model.specs.declared.schedule.Wave.{Wave}
 use Rattle.lifetimes.proofs.LifeFacts.{reads_more, wave_at}
 use Rattle.lifetimes.specs.Reads.{read_by}
 use Rattle.lifetimes.specs.declared.reads.Read.{Read}

@@ -1,6 +1,5 @@
-use Rattle.std.proofs.Common.{◌≡◌, ◌+◌, ◌==◌, ◌&&◌, ℕ, ◌∙◌, refl, Bool, true, false, List, get_or, sym, ap, arith, rules, unwrap_or, Option, None, Some}
+use Rattle.std.proofs.Common.{◌≡◌, ◌==◌, ◌&&◌, ◌∙◌, refl, Bool, true, false, List, get_or, ap, arith, rules, unwrap_or, None}
 use Rattle.plan_model.specs.Buffers.{is_freed, is_reader}
-use Rattle.graph_model.specs.declared.graph.Uid.{Uid}
 use Rattle.plan_model.specs.declared.buffers.Life.{Life}
 use Rattle.plan_model.proofs.Counts.{bit}
 use Rattle.std.specs.HashMap.{get}

@@ -1,4 +1,4 @@
-use Rattle.std.proofs.Common.{◌≡◌, ◌==◌, ℕ, ◌∙◌, ◌<◌, List, length, get_or, take, subst, sym, arith}
+use Rattle.std.proofs.Common.{◌==◌, ℕ, ◌∙◌, ◌<◌, List, get_or, subst, sym, arith}
 use Rattle.std.specs.List.{All}
 use Rattle.std.proofs.lemmas.List.{length-set, get_or_default}
 use Rattle.lifetimes.proofs.TallyFacts.{count_by-first, tally_more}
