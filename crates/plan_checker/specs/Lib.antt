@@ -3,3 +3,4 @@ pub mod Networks
 pub mod Waves
 pub mod Homes
 pub mod Buffers
+pub mod Verdicts

@@ -13,3 +13,6 @@ mod channels;
 mod homes;
 mod peak;
 mod judged;
+mod verdicts;
+
+pub use verdicts::{No, Yes, verdict};
