@@ -12,3 +12,5 @@ pub mod ApartFacts
 pub mod PeakFacts
 pub mod Pigeons
 pub mod FlowSizes
+pub mod ScheduleFacts
+pub mod RuleFacts

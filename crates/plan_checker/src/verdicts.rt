@@ -53,6 +53,8 @@ pub fn verdict(alloc: Global, g: &Checked, plan: &Plan) -> Result<Yes, Refused<N
     ensures no { IfErr result (IsRefusal g.now plan.now) }
     ensures optimal { OnOk result (IsOptimal g.now plan.now) }
 {
+    let graph = g.graph();
+    prove!(graph.nodes.len() <= 512);
     for rule in RULES {
         if let Some(place) = place_of(alloc, g, plan, rule)? {
             return Err(Refused::Fault(No { rule, place }));
