@@ -1,5 +1,5 @@
 -- Values that may share a buffer, place by place.
-use Rattle.std.proofs.Common.{◌≡◌, ℕ, ◌<◌, List, length, get_or, sym, ap, ◌∙◌, subst, arith, Some}
+use Rattle.std.proofs.Common.{◌≡◌, ℕ, List, subst, Some}
 use Rattle.std.specs.Prelude.{slice_get}
 use Rattle.plan_model.specs.Buffers.{MayShare}
 use Rattle.plan_model.specs.declared.buffers.Home.{Home}

@@ -1,11 +1,10 @@
 -- How many arcs a flow has.
-use Rattle.std.proofs.Common.{◌≡◌, ℕ, ◌+◌, ◌<◌, ◌≤◌, ◌==◌, ◌&&◌, List, [], ◌∷◌, ◌++◌, length, map, get_or, refl, sym, ap, ◌∙◌, subst, cond, true, false, Bool, inl, inr, arith, Some, Contains, filter, pos, neg_ℤ}
+use Rattle.std.proofs.Common.{◌≡◌, ℕ, ◌≤◌, ◌==◌, ◌&&◌, List, [], ◌∷◌, ◌++◌, length, map, get_or, refl, sym, ap, ◌∙◌, subst, cond, true, false, Bool, inl, inr, arith, Some, Contains, pos, neg_ℤ}
 use Rattle.std.specs.Prelude.{AllPairs, IsSome}
 use Rattle.std.specs.List.{find}
 use Rattle.std.proofs.lemmas.Bool.{false≢true}
 use Rattle.std.proofs.lemmas.Bool.Decides.{nat_tests}
 use Rattle.std.proofs.lemmas.List.{length-append, length-map, get_or-map}
-use Rattle.std.proofs.lemmas.List.Elements.{Contains-get_or}
 use Rattle.std.proofs.lemmas.List.Sums.{count_by-le-length, length-filter}
 use Rattle.graph_model.specs.Graphs.{input_name, output_name}
 use Rattle.graph_model.specs.Paths.{is_live, live_nodes, live_connections}
@@ -15,7 +14,7 @@ use Rattle.graph_model.specs.declared.graph.Graph.{Graph}
 use Rattle.graph_model.specs.declared.graph.Node.{Node}
 use Rattle.graph_model.proofs.PathLaws.{at_tail}
 use Rattle.plan_model.specs.Certified.{AreArcs}
-use Rattle.plan_model.specs.Flows.{IsBeforeArc, along, arc_between, from_root, is_between, network, to_root}
+use Rattle.plan_model.specs.Flows.{IsBeforeArc, along, from_root, is_between, network, to_root}
 use Rattle.plan_model.specs.Networks.{Difference}
 use Rattle.plan_model.specs.declared.flow.Units.{Units}
 use Rattle.plan_model.proofs.CertifiedLaws.{AllPairs_map}

@@ -1,12 +1,10 @@
 -- Homes, lives and values side by side.
-use Rattle.std.proofs.Common.{◌≡◌, ℕ, ◌+◌, ◌<◌, ◌==◌, ◌&&◌, List, [], ◌∷◌, length, map, get_or, refl, sym, ap, ◌∙◌, subst, cond, true, false, Bool, arith}
+use Rattle.std.proofs.Common.{◌≡◌, ℕ, ◌+◌, ◌==◌, ◌&&◌, List, [], ◌∷◌, map, refl, sym, ap, ◌∙◌, subst, cond, true, Bool, arith}
 use Rattle.std.specs.List.{common_prefix_len, AllZip}
 use Rattle.std.proofs.lemmas.Bool.Decides.{nat_tests}
-use Rattle.std.proofs.lemmas.List.{length-map, get_or-map}
 use Rattle.graph_model.specs.declared.graph.Graph.{Graph}
-use Rattle.graph_model.specs.declared.graph.Uid.{Uid}
 use Rattle.graph_model.proofs.PathLaws.{and_both, same_name}
-use Rattle.plan_model.specs.Lives.{Port, life_of, lives_of, ports_of, values}
+use Rattle.plan_model.specs.Lives.{Port, lives_of, ports_of, values}
 use Rattle.plan_model.specs.Places.{same_port}
 use Rattle.plan_model.specs.declared.buffers.Home.{Home}
 use Rattle.plan_model.specs.declared.buffers.Life.{Life}

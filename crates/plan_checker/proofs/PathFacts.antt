@@ -1,7 +1,7 @@
 -- The latency of a path.
-use Rattle.std.proofs.Common.{◌≡◌, ◌≤◌, List, arith}
+use Rattle.std.proofs.Common.{◌≤◌, List, arith}
 use Rattle.graph_model.specs.Graphs.{output_name}
-use Rattle.graph_model.specs.Paths.{latency_of_graph, depth}
+use Rattle.graph_model.specs.Paths.{depth}
 use Rattle.graph_model.specs.Sound.{IsSound}
 use Rattle.graph_model.specs.declared.graph.Graph.{Graph}
 use Rattle.graph_model.specs.declared.graph.Uid.{Uid}

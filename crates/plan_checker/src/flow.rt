@@ -125,8 +125,8 @@ fn is_balanced(connections: &[Connection], arcs: &[Units], point: u32) -> bool
 pub(crate) fn need(live: &[u32], connections: &[Connection], arcs: &[Units]) -> Option<u64>
     ensures { (g : Graph) → AreLiveNodes g live.now → connections.now ≡ live_connections g
         → Judges result
-            ((v : ℕ) → IsPoint g v → IsBalanced g arcs.now v)
-            (IsFirstBad (λ v. IsPoint g v → IsBalanced g arcs.now v)) }
+        ((v : ℕ) → IsPoint g v → IsBalanced g arcs.now v)
+        (IsFirstBad (λ v. IsPoint g v → IsBalanced g arcs.now v)) }
 {
     if !is_balanced(connections, arcs, 0) {
         return Some(0);

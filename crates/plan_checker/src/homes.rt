@@ -35,8 +35,8 @@ fn agreeing(homes: &[Home], lives: &[Life]) -> usize
 pub(crate) fn homes(lives: &[Life], homes: &[Home]) -> Option<u64>
     ensures { (g : Graph) (waves : List Wave) → lives.now ≡ lives_of g waves (values g)
         → Judges result
-            (AreValues g (ports_of homes.now))
-            (λ place. place ≡ common_prefix_len same_port (ports_of homes.now) (values g)) }
+        (AreValues g (ports_of homes.now))
+        (λ place. place ≡ common_prefix_len same_port (ports_of homes.now) (values g)) }
 {
     let agreeing = agreeing(homes, lives);
     if agreeing == homes.len() && agreeing == lives.len() {

@@ -109,5 +109,7 @@ pub(crate) fn network(
 pub(crate) fn between(network: &[Constraint], tail: u32, head: u32) -> Option<&Constraint>
     ensures { option_copied result ≡ find (λ a. (a.tail == tail) && (a.head == head)) network.now }
 {
-    network.iter().find(|arc| arc.tail == tail && arc.head == head)
+    network
+        .iter()
+        .find(|arc| arc.tail == tail && arc.head == head)
 }

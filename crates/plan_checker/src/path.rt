@@ -16,7 +16,9 @@ fn is_joined(graph: &Graph, from: Uid, to: Uid) -> bool
     ensures { MatchBool result (IsJoined graph.now from.0 to.0) (IsJoined graph.now from.0 to.0 → ⊥) }
 {
     let connections = graph.connections.as_slice();
-    connections.iter().any(|c| c.src.0 == from.0 && c.dst.0 == to.0)
+    connections
+        .iter()
+        .any(|c| c.src.0 == from.0 && c.dst.0 == to.0)
 }
 
 /// Whether an entry of a path is a node that leads on to the next entry, or the output node where it is the last.

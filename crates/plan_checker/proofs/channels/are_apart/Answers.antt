@@ -1,4 +1,4 @@
-use Rattle.std.proofs.Common.{◌≡◌, ◌<◌, length, pos, get_or, arith, None}
+use Rattle.std.proofs.Common.{get_or, arith, None}
 use Rattle.std.proofs.lemmas.Option.{slice_get-get_or}
 use Rattle.plan_model.specs.declared.buffers.Home.{Home}
 use Rattle.plan_model.specs.declared.buffers.Life.{Life}

@@ -1,4 +1,4 @@
-use Rattle.std.proofs.Common.{◌≡◌, ◌<◌, length, arith, sym, below_more}
+use Rattle.std.proofs.Common.{◌≡◌, arith, sym, below_more}
 use Rattle.std.proofs.lemmas.Option.{slice_get_within}
 use Rattle.std.proofs.lemmas.Slice.Zip.{AllZip-long}
 use Rattle.plan_model.specs.Places.{IsHomeAt}

@@ -1,4 +1,4 @@
-use Rattle.std.proofs.Common.{◌≡◌, ◌<◌, ap, get_or, sym, subst, arith, below_more, None}
+use Rattle.std.proofs.Common.{◌≡◌, ◌<◌, get_or, subst, arith, below_more, None}
 use Rattle.std.proofs.lemmas.Option.{slice_get-get_or, get_or_from_slice_get}
 use Rattle.plan_model.specs.declared.buffers.Home.{Home}
 use Rattle.plan_model.specs.declared.buffers.Life.{Life}

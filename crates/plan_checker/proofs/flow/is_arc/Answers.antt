@@ -1,6 +1,5 @@
-use Rattle.std.proofs.Common.{◌≡◌, ◌==◌, ◌&&◌, ◌<◌, ◌-◌, ◌∙◌, get_or, sym, ap, subst, arith, Some}
-use Rattle.std.specs.Prelude.{slice_get, IsSome}
-use Rattle.std.specs.List.{find}
+use Rattle.std.proofs.Common.{◌<◌, ◌-◌, get_or, sym, subst, arith}
+use Rattle.std.specs.Prelude.{IsSome}
 use Rattle.std.proofs.lemmas.Option.{slice_get-get_or}
 use Rattle.plan_model.specs.Flows.{arc_between}
 use Rattle.plan_model.specs.declared.flow.Units.{Units}

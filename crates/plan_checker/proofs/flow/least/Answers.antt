@@ -1,4 +1,4 @@
-use Rattle.std.proofs.Common.{◌≡◌, ◌==◌, ◌&&◌, ◌≤◌, ◌∙◌, sym, ap, arith, w64, to_z, of_z, FitsSigned}
+use Rattle.std.proofs.Common.{◌==◌, ◌&&◌, ◌≤◌, ◌∙◌, sym, ap, arith, w64, FitsSigned}
 use Rattle.std.specs.Prelude.{unsigned_abs}
 use Rattle.std.specs.Option.{option_map}
 use Rattle.std.proofs.lemmas.Int.{to_z-of_z, fits_signed_from_abs}

@@ -1,9 +1,8 @@
-use Rattle.std.proofs.Common.{◌≡◌, ◌∙◌, length, map, sym, ap, subst, arith}
+use Rattle.std.proofs.Common.{◌≡◌, ◌∙◌, length, sym, ap, subst, arith}
 use Rattle.std.proofs.lemmas.List.{length-map}
 use Rattle.plan_model.specs.Lives.{AreValues, ports_of, values}
 use Rattle.plan_model.specs.Places.{same_port}
 use Rattle.plan_model.specs.declared.buffers.Home.{Home}
-use Rattle.plan_model.specs.declared.buffers.Life.{Life}
 use Rattle.plan_model.proofs.UniqueLaws.{values_are_unique}
 use Rattle.plan_model.proofs.ValueLaws.{values_are_listed}
 use Rattle.plan_checker.specs.Homes.{port_of}
@@ -32,12 +31,12 @@ returns c g waves are =
     let count = length-map lives port_of in
     let size = ap length (values_are g waves lives homes are) in (
       (λ for.
-      let is : ports_of homes ≡ values g = values_are_unique g (ports_of homes) (values g) for (values_are_listed g) in
-      let whole = same_agree same_port port_is port_itself (ports_of homes) (values g) is in
-      let both = ap length is in
-      elim c.else-agreeing-homes.branch [
-        | else-agreeing-homes-via-then-agreeing-homes+else-agreeing-lives w ↦ w.if-agreeing-lives.false (omega arith)
-        | else-agreeing-homes-via-else-agreeing-homes w ↦ w.if-agreeing-homes.false (omega arith)
-      ]),
+          let is : ports_of homes ≡ values g = values_are_unique g (ports_of homes) (values g) for (values_are_listed g) in
+          let whole = same_agree same_port port_is port_itself (ports_of homes) (values g) is in
+          let both = ap length is in
+          elim c.else-agreeing-homes.branch [
+            | else-agreeing-homes-via-then-agreeing-homes+else-agreeing-lives w ↦ w.if-agreeing-lives.false (omega arith)
+            | else-agreeing-homes-via-else-agreeing-homes w ↦ w.if-agreeing-homes.false (omega arith)
+          ]),
       c.agreeing-agreeing.ensures ∙ place,
     )

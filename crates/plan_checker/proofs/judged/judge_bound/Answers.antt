@@ -1,4 +1,4 @@
-use Rattle.std.proofs.Common.{◌≡◌, ◌∙◌, List, length, ap, arith}
+use Rattle.std.proofs.Common.{◌≡◌, ◌∙◌, length, ap, arith}
 use Rattle.plan_model.specs.Rules.{path_latency}
 use Rattle.plan_checker.proofs.FlowSizes.{few_arcs, few_live}
 use Rattle.plan_checker.proofs.PathFacts.{path_is_short}

@@ -1,4 +1,4 @@
-use Rattle.std.proofs.Common.{◌≡◌, ◌∙◌, List, subst}
+use Rattle.std.proofs.Common.{◌∙◌, subst}
 use Rattle.plan_model.specs.Buffers.{IsAssignment}
 use Rattle.plan_model.specs.Lives.{lives_of, ports_of}
 use Rattle.plan_model.specs.Places.{IsFirstBad, IsHomeAt}

@@ -1,4 +1,4 @@
-use Rattle.std.proofs.Common.{◌≡◌, ℕ, ◌∙◌, sym, subst}
+use Rattle.std.proofs.Common.{ℕ, ◌∙◌, sym, subst}
 use Rattle.plan_model.specs.Flows.{IsPoint, IsBalanced}
 use Rattle.plan_model.specs.Places.{IsFirstBad}
 use Rattle.plan_model.specs.Rules.{AreLiveNodes}

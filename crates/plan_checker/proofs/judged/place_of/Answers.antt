@@ -1,7 +1,6 @@
 use Rattle.std.proofs.Common.{◌≡◌, sym, subst, map, arith}
 use Rattle.graph_model.specs.Graphs.{input_name}
 use Rattle.graph_model.specs.Paths.{IsLive}
-use Rattle.graph_model.specs.declared.graph.Graph.{Graph}
 use Rattle.plan_model.specs.Alignments.{position_in}
 use Rattle.plan_model.specs.Certified.{Holds}
 use Rattle.plan_model.specs.Places.{IsFirstBad, IsPlace, IsStep}

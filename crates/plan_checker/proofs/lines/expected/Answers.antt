@@ -1,4 +1,4 @@
-use Rattle.std.proofs.Common.{◌≡◌, ◌+◌, ◌<◌, List, ◌++◌, ◌∷◌, [], length, get_or, drop, ap, sym, ◌∙◌, arith, true, false}
+use Rattle.std.proofs.Common.{◌≡◌, ◌+◌, ◌<◌, List, ◌++◌, ◌∷◌, [], length, get_or, drop, ap, sym, ◌∙◌, arith}
 use Rattle.graph_model.specs.Answers.{delay}
 use Rattle.graph_model.specs.Paths.{is_live}
 use Rattle.graph_model.specs.declared.graph.Connection.{Connection}

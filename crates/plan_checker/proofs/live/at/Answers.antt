@@ -1,5 +1,4 @@
-use Rattle.std.proofs.Common.{◌≡◌, ◌==◌, ℕ, List, ◌∙◌, length, map, ap, sym, subst, arith, true, false}
-use Rattle.std.specs.List.{common_prefix_len}
+use Rattle.std.proofs.Common.{◌≡◌, ◌==◌, ℕ, length, map, ap, sym, subst, arith}
 use Rattle.std.proofs.lemmas.Bool.{eqb-true}
 use Rattle.std.proofs.lemmas.List.{length-map}
 use Rattle.graph_model.proofs.PathLaws.{same_name}
@@ -25,12 +24,12 @@ returns c g are =
     let live = c.args.live.now in
     let long = length-map at (λ (a : At). a.uid.0) in (
       (λ here.
-      let is : map (λ (a : At). a.uid.0) at ≡ live = live_nodes_are_unique g (map (λ (a : At). a.uid.0) at) live here are in
-      let whole = same_agree {X = ℕ} (λ x y. x == y) eqb-true same_name (map (λ (a : At). a.uid.0) at) live is in
-      let size = ap length is in
-      elim c.else-agreeing-at.branch [
-        | else-agreeing-at-via-then-agreeing-at+else-agreeing-live w ↦ w.if-agreeing-live.false (omega arith)
-        | else-agreeing-at-via-else-agreeing-at w ↦ w.if-agreeing-at.false (omega arith)
-      ]),
+          let is : map (λ (a : At). a.uid.0) at ≡ live = live_nodes_are_unique g (map (λ (a : At). a.uid.0) at) live here are in
+          let whole = same_agree {X = ℕ} (λ x y. x == y) eqb-true same_name (map (λ (a : At). a.uid.0) at) live is in
+          let size = ap length is in
+          elim c.else-agreeing-at.branch [
+            | else-agreeing-at-via-then-agreeing-at+else-agreeing-live w ↦ w.if-agreeing-live.false (omega arith)
+            | else-agreeing-at-via-else-agreeing-at w ↦ w.if-agreeing-at.false (omega arith)
+          ]),
       (live, are, c.agreeing-agreeing.ensures),
     )

@@ -1,4 +1,4 @@
-use Rattle.std.proofs.Common.{◌≤◌, ◌<◌, [], sym, ap, subst, length, arith}
+use Rattle.std.proofs.Common.{sym, subst, arith}
 use Rattle.plan_checker.specs.Networks.{AreSmall}
 use Rattle.plan_checker.proofs.network.network.Goals as goal
 

@@ -1,4 +1,4 @@
-use Rattle.std.proofs.Common.{◌≡◌, ◌∙◌, refl, subst, sym, arith}
+use Rattle.std.proofs.Common.{refl, subst, sym}
 use Rattle.std.specs.Prelude.{length}
 use Rattle.plan_model.specs.Rules.{IsPeak}
 use Rattle.plan_checker.proofs.PeakFacts.{first_is_peak, peak_is_first, some_is_first}

@@ -1,6 +1,6 @@
-use Rattle.std.proofs.Common.{◌≡◌, ◌∙◌, sym, ap, true, arith}
+use Rattle.std.proofs.Common.{◌≡◌, ◌∙◌, sym, ap, true}
 use Rattle.graph_model.specs.Graphs.{input_name}
-use Rattle.graph_model.specs.Paths.{IsLive, is_live}
+use Rattle.graph_model.specs.Paths.{is_live}
 use Rattle.graph_model.proofs.LiveLaws.{live_by, live_test}
 use Rattle.plan_model.specs.Alignments.{position_in}
 use Rattle.plan_checker.proofs.positions.input.Goals as goal

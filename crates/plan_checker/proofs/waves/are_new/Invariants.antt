@@ -1,5 +1,4 @@
 use Rattle.std.proofs.Common.{ℕ, ◌<◌, get_or}
-use Rattle.graph_model.specs.declared.graph.Uid.{Uid}
 use Rattle.plan_checker.specs.Waves.{IsNew}
 use Rattle.plan_checker.proofs.waves.are_new.Given as goal
 

@@ -1,5 +1,4 @@
-use Rattle.std.proofs.Common.{◌≡◌, ◌==◌, ◌∙◌, get_or, ap, sym, subst, Some, true, false, Contains, MatchBool}
-use Rattle.std.specs.Prelude.{slice_get}
+use Rattle.std.proofs.Common.{◌≡◌, ◌==◌, ◌∙◌, get_or, ap, sym, subst, true, false, Contains, MatchBool}
 use Rattle.std.specs.List.{list_any, flat_map}
 use Rattle.std.proofs.lemmas.Option.{slice_get-get_or}
 use Rattle.graph_model.specs.declared.graph.Connection.{Connection}

@@ -1,11 +1,7 @@
-use Rattle.std.proofs.Common.{◌≡◌, ℕ, ◌<◌, length, take, sym, subst, ap, ◌∙◌, arith, below_more, Some, Contains}
+use Rattle.std.proofs.Common.{◌≡◌, length, take, subst, arith, below_more, Some}
 use Rattle.std.specs.Prelude.{slice_get}
-use Rattle.std.specs.List.{All, flat_map}
 use Rattle.std.proofs.lemmas.Option.{slice_get_within}
-use Rattle.std.proofs.lemmas.List.{take_all}
-use Rattle.std.proofs.lemmas.List.Elements.{All-contains}
 use Rattle.plan_model.specs.Places.{IsNextWave, IsWaveAt}
-use Rattle.plan_model.specs.Schedules.{names}
 use Rattle.plan_model.specs.declared.schedule.Wave.{Wave}
 use Rattle.plan_model.proofs.WaveLaws.{waves_by_entries}
 use Rattle.plan_checker.proofs.WaveFacts.{at_place, waves_before, all_waves, bad_wave, missing_node}
@@ -32,9 +28,10 @@ pub returns-then-not-all_stand : goal.returns-then-not-all_stand
 returns-then-not-all_stand c =
     let g = c.args.g.now in
     let ws = c.args.waves.now in
-    let bad : IsWaveAt g ws (length ws) → ⊥ = missing_node g c.args.live.now c.requires.live ws c.if-not-all_stand.ensures in
-    ((λ s. bad ((waves_by_entries g ws c.requires.sound).1 s (length ws))),
-    (waves_before g ws (length ws) (omega arith) (λ j lt w at. c.loop-k.invariant j (omega arith) w at), bad))
+    let bad : IsWaveAt g ws (length ws) → ⊥ = missing_node g c.args.live.now c.requires.live ws c.if-not-all_stand.ensures in (
+      (λ s. bad ((waves_by_entries g ws c.requires.sound).1 s (length ws))),
+      (waves_before g ws (length ws) (omega arith) (λ j lt w at. c.loop-k.invariant j (omega arith) w at), bad),
+    )
 
 pub returns : goal.returns
 returns c =
