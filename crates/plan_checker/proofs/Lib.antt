@@ -3,7 +3,7 @@ pub mod LineFacts
 pub mod PrefixFacts
 pub mod LiveFacts
 pub mod WaveFacts
-pub mod Tests
+pub mod SameTest
 pub mod Filters
 pub mod FlowFacts
 pub mod NetworkFacts

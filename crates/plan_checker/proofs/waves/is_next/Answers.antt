@@ -5,7 +5,7 @@ use Rattle.std.proofs.lemmas.Bool.Decides.{nat_tests}
 use Rattle.graph_model.specs.declared.graph.Uid.{Uid}
 use Rattle.graph_model.specs.declared.list.List.{List as Sequence}
 use Rattle.plan_checker.specs.Waves.{IsNew, IsReady}
-use Rattle.plan_checker.proofs.Tests.{same_test}
+use Rattle.plan_checker.proofs.SameTest.{same_test}
 use Rattle.plan_checker.proofs.WaveFacts.{next_wave, next_new, next_ready}
 use Rattle.plan_checker.proofs.waves.is_next.Goals as goal
 
