@@ -14,3 +14,4 @@ pub mod Pigeons
 pub mod FlowSizes
 pub mod ScheduleFacts
 pub mod RuleFacts
+pub mod TenantFacts

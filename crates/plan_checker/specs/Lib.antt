@@ -4,3 +4,4 @@ pub mod Waves
 pub mod Homes
 pub mod Buffers
 pub mod Verdicts
+pub mod Tenants

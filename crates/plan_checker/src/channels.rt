@@ -1,17 +1,19 @@
 //! The buffers of the values.
 
-ghost use Rattle.std.specs.Prelude.{◌≡◌, ℕ, ◌<◌, length, MatchBool};
-ghost use Rattle.std.specs.List.{AllZip};
+ghost use Rattle.std.specs.Prelude.{◌≡◌, ℕ, ◌<◌, length, IfOk, MatchBool};
+ghost use Rattle.std.specs.List.{All, AllZip};
 ghost use Rattle.plan_model.specs.Buffers.{Follows, IsAssignment, MayShare};
 ghost use Rattle.plan_model.specs.Places.{IsFirstBad, IsHomeAt};
 ghost use Rattle.plan_checker.specs.Answers.{Judges};
 ghost use Rattle.plan_checker.specs.Buffers.{AreApart};
 
+use crate::tenants::all_fit;
 use plan_model::{Home, Life};
+use std::alloc::{AllocError, Global};
 
 /// Whether a value may have the buffer that another had: that one dies before it is born, or just there with its node
 /// as the sole reader.
-fn follows(first: Life, second: Life) -> bool
+pub(crate) fn follows(first: Life, second: Life) -> bool
     ensures { MatchBool result (Follows first second) (Follows first second → ⊥) }
 {
     if first.dies < second.born {
@@ -59,8 +61,20 @@ fn is_home(lives: &[Life], homes: &[Home], channels: u32, k: usize) -> bool
     true
 }
 
-/// All buffers are below `channels`, and no two values that interfere have one buffer.
-pub(crate) fn channels(lives: &[Life], homes: &[Home], channels: u32) -> Option<u64>
+/// Whether all buffers are below `channels`.
+fn are_below(homes: &[Home], channels: u32) -> bool
+    ensures { MatchBool result (All (λ h. h.buffer < channels) homes.now) (All (λ h. h.buffer < channels) homes.now → ⊥) }
+{
+    for home in homes {
+        if home.buffer >= channels {
+            return false;
+        }
+    }
+    true
+}
+
+/// The first bad home, found by looking at each beside all those before it.
+fn first_bad_home(lives: &[Life], homes: &[Home], channels: u32) -> Option<u64>
     requires { AllZip (λ x h. (h.uid ≡ x.uid) × (h.channel ≡ x.channel)) lives.now homes.now }
     ensures { Judges result (IsAssignment lives.now homes.now channels) (IsFirstBad (IsHomeAt lives.now homes.now channels)) }
 {
@@ -70,4 +84,28 @@ pub(crate) fn channels(lives: &[Life], homes: &[Home], channels: u32) -> Option<
         }
     }
     None
+}
+
+/// All buffers are below `channels`, and no two values that interfere have one buffer.
+///
+/// Where all fit, one look at each value in the order of the buffers shows it; each is looked at beside all those before
+/// it only to find the place.
+pub(crate) fn channels(
+    alloc: Global,
+    lives: &[Life],
+    homes: &[Home],
+    channels: u32,
+) -> Result<Option<u64>, AllocError>
+    requires beside { AllZip (λ x h. (h.uid ≡ x.uid) × (h.channel ≡ x.channel)) lives.now homes.now }
+    requires lasting { All (λ x. x.born < x.dies) lives.now }
+    ensures { IfOk result (λ answer. Judges answer
+        (IsAssignment lives.now homes.now channels)
+        (IsFirstBad (IsHomeAt lives.now homes.now channels))) }
+{
+    if are_below(homes, channels) {
+        if all_fit(alloc, lives, homes)? {
+            return Ok(None);
+        }
+    }
+    Ok(first_bad_home(lives, homes, channels))
 }

@@ -114,7 +114,8 @@ fn judge_channels(alloc: Global, g: &Checked, plan: &Plan) -> Result<Option<u64>
     ensures { IfOk result (λ answer. Judges answer (Holds g.now plan.now Channels) (IsPlace g.now plan.now Channels)) }
 {
     let lives = lives_at_home(alloc, g, plan)?;
-    Ok(channels(lives.as_slice(), plan.homes.as_slice(), plan.channels))
+    let homes = plan.homes.as_slice();
+    channels(alloc, lives.as_slice(), homes, plan.channels)
 }
 
 /// The wave that needs all channels.

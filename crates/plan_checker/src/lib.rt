@@ -24,6 +24,7 @@ mod network;
 mod path;
 mod peak;
 mod positions;
+mod tenants;
 #[cfg(test)]
 mod tests;
 mod verdicts;

@@ -102,6 +102,13 @@ fn are_ready(g: &Checked, before: &[Wave], nodes: &[Uid]) -> bool
     true
 }
 
+/// Whether a wave has a node.
+fn is_filled(nodes: &[Uid]) -> bool
+    ensures { MatchBool result (0 < length nodes.now) (0 < length nodes.now → ⊥) }
+{
+    !nodes.is_empty()
+}
+
 /// Whether a wave may come after the waves before it.
 fn is_next(g: &Checked, live: &[u32], before: &[Wave], wave: &Wave) -> bool
     requires fits { Fits g.now }
@@ -109,7 +116,7 @@ fn is_next(g: &Checked, live: &[u32], before: &[Wave], wave: &Wave) -> bool
     ensures { MatchBool result (IsNextWave g.now before.now wave.now) (IsNextWave g.now before.now wave.now → ⊥) }
 {
     let nodes = wave.nodes.as_slice();
-    if nodes.is_empty() {
+    if !is_filled(nodes) {
         return false;
     }
     if !is_rising(nodes) {
