@@ -1,0 +1,17 @@
+pub mod PathFacts
+pub mod LineFacts
+pub mod PrefixFacts
+pub mod LiveFacts
+pub mod WaveFacts
+pub mod SameTest
+pub mod Filters
+pub mod FlowFacts
+pub mod NetworkFacts
+pub mod HomeFacts
+pub mod ApartFacts
+pub mod PeakFacts
+pub mod Pigeons
+pub mod FlowSizes
+pub mod ScheduleFacts
+pub mod RuleFacts
+pub mod TenantFacts

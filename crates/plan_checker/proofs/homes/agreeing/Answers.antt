@@ -1,0 +1,14 @@
+use Rattle.std.proofs.Common.{◌≡◌, ◌∙◌, length, arith, inl, inr}
+use Rattle.std.proofs.lemmas.Bool.{cases_lt}
+use Rattle.plan_checker.specs.Homes.{is_for}
+use Rattle.plan_checker.proofs.PrefixFacts.{first_ends, second_ends}
+use Rattle.plan_checker.proofs.homes.agreeing.Goals as goal
+
+pub returns : goal.returns
+returns c =
+    let i = c.loop-place.place in
+    let end : c.min-shorter.result ≡ i = omega arith in
+    elim (cases_lt i (length c.args.homes.now)) [
+      | inl less ↦ end ∙ second_ends is_for c.args.homes.now c.args.lives.now i c.loop-place.invariant (omega arith)
+      | inr le ↦ end ∙ first_ends is_for c.args.homes.now c.args.lives.now i c.loop-place.invariant (omega arith)
+    ]
