@@ -1,3 +1,5 @@
+//! Texts in their bytes, and each way in which a text is bad.
+
 use crate::{PlanFault, print, read};
 use graph_model::{List, Refused, Uid};
 use plan_model::{At, Home, LineAt, Plan, Units, Wave};
