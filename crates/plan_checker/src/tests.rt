@@ -1,239 +1,91 @@
-//! Plans that are certified, and plans that each rule refuses.
+//! Plans that are certified, and plans that each rule refuses, as texts.
 
 use crate::{No, Yes, verdict};
 use connections::{Checked, check};
-use graph_model::{List, Refused, Uid};
-use plan_model::{At, Home, LineAt, Plan, Rule, Units, Wave};
-use std::alloc::{AllocError, Global};
+use graph_model::Refused;
+use plan_model::Rule;
+use plan_text::read;
+use std::alloc::Global;
 use std::test::Fail;
 use test_graphs::{fan_out, graph_of, input, joined, output};
 
-fn at(uid: u32, at: u64) -> At {
-    At { uid: Uid(uid), at }
-}
-
-fn line(connection: u32, delay: u64) -> LineAt {
-    LineAt { connection, delay }
-}
-
-fn units(tail: u32, head: u32, units: u64) -> Units {
-    Units { tail, head, units }
-}
-
-fn home(uid: u32, buffer: u32) -> Home {
-    Home {
-        uid: Uid(uid),
-        channel: 0,
-        buffer,
-    }
-}
-
-fn path(alloc: Global, uids: &[u32]) -> Result<List<Uid>, AllocError> {
-    let mut path = List::new(alloc);
-    for uid in uids {
-        path.push(Uid(*uid))?;
-    }
-    Ok(path)
-}
-
-/// One node a wave.
-fn waves(alloc: Global, uids: &[u32]) -> Result<List<Wave>, AllocError> {
-    let mut waves = List::new(alloc);
-    for uid in uids {
-        waves.push(Wave {
-            nodes: path(alloc, &[*uid])?,
-        })?;
-    }
-    Ok(waves)
-}
-
 /// A plan of an insert of 5 beside a gain that fans out.
-fn fan_out_plan(alloc: Global) -> Result<Plan, AllocError> {
-    let lines = [
-        line(0, 0),
-        line(1, 0),
-        line(2, 5),
-        line(3, 0),
-        line(4, 0),
-        line(5, 0),
-    ];
-    Ok(Plan {
-        latency: 5,
-        path: path(alloc, &[1, 3, 2])?,
-        at: List::from_slice(alloc, &[at(1, 0), at(2, 5), at(3, 0), at(4, 5)])?,
-        lines: List::from_slice(alloc, &lines)?,
-        total: 5,
-        arcs: List::from_slice(alloc, &[units(1, 3, 2), units(3, 2, 2), units(4, 2, 2)])?,
-        bound: 5,
-        waves: waves(alloc, &[1, 3, 4, 2])?,
-        homes: List::from_slice(alloc, &[home(1, 0), home(3, 1), home(4, 0)])?,
-        channels: 2,
-        peak: 1,
-    })
+const FAN_OUT: &str =
+    "plan 1\nlatency 5\npath 1 3 2\nat 1 0\nat 2 5\nat 3 0\nat 4 5\nline 0 0\nline 1 0\nline 2 5\n\
+line 3 0\nline 4 0\nline 5 0\ntotal 5\narc 1 3 2\narc 3 2 2\narc 4 2 2\nbound 5\nwave 1\nwave 3\nwave 4\nwave 2\n\
+home 1 0 0\nhome 3 0 1\nhome 4 0 0\nchannels 2\npeak 1\nend\n";
+
+/// A plan of an input that is joined to an output.
+const JOINED: &str =
+    "plan 1\nlatency 0\npath 2\nat 1 0\nat 2 0\nline 0 0\ntotal 0\narc 1 2 1\nbound 0\nwave 1\nwave 2\n\
+home 1 0 0\nchannels 1\npeak 0\nend\n";
+
+/// Where the gain stands, and at 0, with three lines that wait behind it.
+const AT_5: &str = "at 4 5\nline 0 0\nline 1 0\nline 2 5\nline 3 0\nline 4 0\nline 5 0\ntotal 5\n";
+
+const AT_0: &str = "at 4 0\nline 0 0\nline 1 0\nline 2 0\nline 3 5\nline 4 5\nline 5 5\ntotal 15\n";
+
+/// Units round a cycle, which change no need and no bound.
+const ROUND: &str = "arc 0 1 18446744073709551615\narc 1 0 18446744073709551615\narc 1 3 2";
+
+/// The verdict on the plan of a text, with one piece of it in place of another.
+fn verdict_with(
+    alloc: Global,
+    graph: &Checked,
+    text: &str,
+    (old, new): (&str, &str),
+) -> Result<Result<Yes, Refused<No>>, Fail> {
+    let text = text.replace(alloc, old, new)?;
+    let plan = read(alloc, text.as_bytes())?;
+    Ok(verdict(alloc, graph, &plan))
 }
 
-/// The same where the gain stands at 0 and three lines wait behind it.
-fn early_plan(alloc: Global) -> Result<Plan, AllocError> {
-    let lines = [
-        line(0, 0),
-        line(1, 0),
-        line(2, 0),
-        line(3, 5),
-        line(4, 5),
-        line(5, 5),
-    ];
-    let plan = fan_out_plan(alloc)?;
-    Ok(Plan {
-        at: List::from_slice(alloc, &[at(1, 0), at(2, 5), at(3, 0), at(4, 0)])?,
-        lines: List::from_slice(alloc, &lines)?,
-        total: 15,
-        ..plan
-    })
-}
-
-fn checked_fan_out(alloc: Global) -> Result<Checked, Fail> {
-    Ok(check(alloc, fan_out(alloc)?)?)
-}
-
+/// Whatever the compiler would have chosen.
 #[test]
-fn an_input_joined_to_an_output_is_certified(rt: HostRuntime) -> Result<(), Fail> {
+fn whoever_made_a_certified_plan(rt: HostRuntime) -> Result<(), Fail> {
     let alloc = rt.alloc();
+    let fan_out = check(alloc, fan_out(alloc)?)?;
     let nodes = vec![in alloc; input(1, 1), output(2, 1)]?;
-    let graph = check(alloc, graph_of(alloc, nodes, &[joined(1, 2)])?)?;
-    let plan = Plan {
-        latency: 0,
-        path: path(alloc, &[2])?,
-        at: List::from_slice(alloc, &[at(1, 0), at(2, 0)])?,
-        lines: List::from_slice(alloc, &[line(0, 0)])?,
-        total: 0,
-        arcs: List::from_slice(alloc, &[units(1, 2, 1)])?,
-        bound: 0,
-        waves: waves(alloc, &[1, 2])?,
-        homes: List::from_slice(alloc, &[home(1, 0)])?,
-        channels: 1,
-        peak: 0,
-    };
-    assert_eq!(rt; verdict(alloc, &graph, &plan), Ok(Yes));
+    let joined = check(alloc, graph_of(alloc, nodes, &[joined(1, 2)])?)?;
+    for (graph, text, change) in [
+        (&fan_out, FAN_OUT, ("peak 1", "peak 1")),
+        (&fan_out, FAN_OUT, ("arc 1 3 2", ROUND)),
+        (&joined, JOINED, ("path 2", "path 2")),
+        (&joined, JOINED, ("path 2", "path 1 2")),
+    ] {
+        assert_eq!(rt; verdict_with(alloc, graph, text, change)?, Ok(Yes));
+    }
     Ok(())
 }
 
-/// Units round a cycle change no need and no bound, however many they are.
-#[test]
-fn a_flow_round_a_cycle_is_certified(rt: HostRuntime) -> Result<(), Fail> {
-    let alloc = rt.alloc();
-    let graph = checked_fan_out(alloc)?;
-    let mut plan = fan_out_plan(alloc)?;
-    assert_eq!(rt; verdict(alloc, &graph, &plan), Ok(Yes));
-    let most = u64::MAX;
-    let arcs = [
-        units(0, 1, most),
-        units(1, 0, most),
-        units(1, 3, 2),
-        units(3, 2, 2),
-        units(4, 2, 2),
-    ];
-    plan.arcs = List::from_slice(alloc, &arcs)?;
-    assert_eq!(rt; verdict(alloc, &graph, &plan), Ok(Yes));
-    Ok(())
-}
-
-/// Positions, lines and total, each altered.
-fn late_parts(alloc: Global) -> Result<Vec<(Plan, No)>, AllocError> {
-    let mut cases = Vec::new(alloc);
-    for (input, gain, rule, place) in [
-        (1, 5, Rule::Input, 1),
-        (0, 4, Rule::Lines, 2),
-        (0, u64::MAX, Rule::Alignment, 3),
-    ] {
-        let mut plan = fan_out_plan(alloc)?;
-        plan.at = List::from_slice(alloc, &[at(1, input), at(2, 5), at(3, 0), at(4, gain)])?;
-        cases.push((plan, No { rule, place }))?;
-    }
-    let short = List::from_slice(alloc, &[at(1, 0), at(2, 5), at(3, 0)])?;
-    let plan = fan_out_plan(alloc)?;
-    let no = No {
-        rule: Rule::At,
-        place: 3,
-    };
-    cases.push((Plan { at: short, ..plan }, no))?;
-    Ok(cases)
-}
-
-/// Paths, arcs, orders of the waves and buffers that are refused.
-fn other_parts(alloc: Global) -> Result<Vec<(Plan, No)>, AllocError> {
-    let mut cases = Vec::new(alloc);
-    for (second, third, rule, place) in [(4, 3, Rule::Path, 1), (4, 2, Rule::Longest, 0)] {
-        let mut plan = fan_out_plan(alloc)?;
-        plan.path = path(alloc, &[1, second, third])?;
-        cases.push((plan, No { rule, place }))?;
-    }
-    for (head, count, rule, place) in [(2, 2, Rule::Arcs, 0), (3, 3, Rule::Need, 1)] {
-        let mut plan = fan_out_plan(alloc)?;
-        let arcs = [units(1, head, count), units(3, 2, 2), units(4, 2, 2)];
-        plan.arcs = List::from_slice(alloc, &arcs)?;
-        cases.push((plan, No { rule, place }))?;
-    }
-    for (third, fourth, place) in [(2, 4, 2), (4, 4, 3)] {
-        let mut plan = fan_out_plan(alloc)?;
-        plan.waves = waves(alloc, &[1, 3, third, fourth])?;
-        let rule = Rule::Waves;
-        cases.push((plan, No { rule, place }))?;
-    }
-    for (uid, buffer, rule, place) in [(2, 0, Rule::Homes, 2), (4, 1, Rule::Channels, 2)] {
-        let mut plan = fan_out_plan(alloc)?;
-        plan.homes = List::from_slice(alloc, &[home(1, 0), home(3, 1), home(uid, buffer)])?;
-        cases.push((plan, No { rule, place }))?;
-    }
-    Ok(cases)
-}
-
-/// Numbers that are refused.
-fn numbers(alloc: Global) -> Result<Vec<(Plan, No)>, AllocError> {
-    let mut cases = Vec::new(alloc);
-    for (latency, total, bound, rule, place) in [
-        (6, 5, 5, Rule::Latency, 5),
-        (5, 6, 5, Rule::Total, 6),
-        (5, 5, 6, Rule::Bound, 6),
-    ] {
-        let plan = fan_out_plan(alloc)?;
-        let plan = Plan {
-            latency,
-            total,
-            bound,
-            ..plan
-        };
-        cases.push((plan, No { rule, place }))?;
-    }
-    for (channels, peak, rule, place) in [
-        (1, 1, Rule::Channels, 1),
-        (3, 1, Rule::Peak, 1),
-        (2, 2, Rule::Peak, 2),
-    ] {
-        let plan = fan_out_plan(alloc)?;
-        let plan = Plan {
-            channels,
-            peak,
-            ..plan
-        };
-        cases.push((plan, No { rule, place }))?;
-    }
-    let no = No {
-        rule: Rule::Least,
-        place: 15,
-    };
-    cases.push((early_plan(alloc)?, no))?;
-    Ok(cases)
-}
-
-/// The earliest alignment has a total of 15, and the flow shows 5.
 #[test]
 fn each_rule_names_its_place(rt: HostRuntime) -> Result<(), Fail> {
     let alloc = rt.alloc();
-    let graph = checked_fan_out(alloc)?;
-    for cases in [late_parts(alloc)?, other_parts(alloc)?, numbers(alloc)?] {
-        for (plan, no) in &cases {
-            assert_eq!(rt; verdict(alloc, &graph, plan), Err(Refused::Fault(*no)));
-        }
+    let graph = check(alloc, fan_out(alloc)?)?;
+    let cases: [(&str, &str, Rule, u64); 19] = [
+        ("at 4 5\n", "", Rule::At, 3),
+        ("at 1 0", "at 1 1", Rule::Input, 1),
+        ("at 4 5", "at 4 18446744073709551615", Rule::Alignment, 3),
+        ("latency 5", "latency 6", Rule::Latency, 5),
+        ("at 4 5", "at 4 4", Rule::Lines, 2),
+        ("total 5", "total 6", Rule::Total, 6),
+        ("path 1 3 2", "path 1 4 3", Rule::Path, 1),
+        ("path 1 3 2", "path 1 4 2", Rule::Longest, 0),
+        ("arc 1 3 2", "arc 1 2 2", Rule::Arcs, 0),
+        ("arc 1 3 2", "arc 1 3 3", Rule::Need, 1),
+        ("bound 5", "bound 6", Rule::Bound, 6),
+        (AT_5, AT_0, Rule::Least, 15),
+        ("wave 4\nwave 2", "wave 2\nwave 4", Rule::Waves, 2),
+        ("wave 4\nwave 2", "wave 4\nwave 4", Rule::Waves, 3),
+        ("home 4 0 0", "home 2 0 0", Rule::Homes, 2),
+        ("home 4 0 0", "home 4 0 1", Rule::Channels, 2),
+        ("channels 2", "channels 1", Rule::Channels, 1),
+        ("channels 2", "channels 3", Rule::Peak, 1),
+        ("peak 1", "peak 2", Rule::Peak, 2),
+    ];
+    for (old, new, rule, place) in cases {
+        let verdict = verdict_with(alloc, &graph, FAN_OUT, (old, new))?;
+        assert_eq!(rt; verdict, Err(Refused::Fault(No { rule, place })), "{new}");
     }
     Ok(())
 }
