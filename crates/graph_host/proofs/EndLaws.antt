@@ -12,18 +12,18 @@ use Rattle.std.specs.Option.{IfSome}
 use Rattle.graph_host.specs.Causes.{IsRefusal, IsGraphEnd, IsInputEnd, IsReadEnd, Stops}
 use Rattle.graph_model.specs.Graphs.{in_channels}
 use Rattle.graph_host.specs.Outputs.{data_bytes, output_of}
-use Rattle.graph_host.specs.Readings.{IsWritten, IsBegun, MayBeReady}
-use Rattle.graph_host.specs.Requests.{Request}
+use Rattle.graph_host.specs.Readings.{FindsRecords, FindsGraph, IsOutput, IsWritten, IsBegun, MayBeReady}
+use Rattle.command_words.specs.Rendering.{RenderRequest}
 use Rattle.graph_model.specs.Sound.{IsSound}
 use Rattle.graph_host.specs.Files.{rendered}
 use Rattle.graph_host.specs.Forms.{written_frames, IsFormOf}
 use Rattle.graph_host.specs.Recordings.{IsInput}
-use Rattle.graph_host.specs.declared.forms.Form.{Form}
+use Rattle.graph_host.specs.declared.output.forms.Form.{Form}
 use Rattle.graph_host.proofs.ChannelLaws.{ins_range}
 use Rattle.graph_host.proofs.OutputLaws.{output_is, bytes_are}
-use Rattle.graph_host.specs.Steps.{FindsRecords, FindsGraph, FindsHead, FindsRecording, IsHeadEnd, IsPart, IsTooLong, Refuses}
+use Rattle.graph_host.specs.Steps.{FindsHead, FindsRecording, IsHeadEnd, IsPart, IsTooLong, Refuses}
 use Rattle.graph_host.specs.declared.ends.End.{End}
-use Rattle.graph_host.specs.declared.ends.End.TheVariants.{Done, Words, SameName, Records, Graph as Checks, Wav, ReadFault, WriteFault, Memory}
+use Rattle.graph_host.specs.declared.ends.End.TheVariants.{Done, No, Words, SameName, Seed, Records, Graph as Checks, Wav, ReadFault, WriteFault, ReportFault, Memory, PlanText}
 
 -- ---- the steps
 
@@ -39,48 +39,44 @@ refused name g held reads (Records fault) found r = absurd r
 refused name g held reads (Wav fault) found r = absurd r
 refused name g held reads ReadFault found r = absurd r
 refused name g held reads WriteFault found r = absurd r
+refused name g held reads (No rule place) found r = absurd r
+refused name g held reads Seed found r = absurd r
+refused name g held reads ReportFault found r = absurd r
+refused name g held reads (PlanText line) found r = absurd r
 
 -- the end that an input has for the request's graph
-pub for_graph : (q : Request) (g : Graph) (held : Option Holding) → FindsGraph q.graph g held → (end : End) → IsInputEnd q g held end → IsReadEnd q held end
+pub for_graph : (q : RenderRequest) (g : Graph) (held : Option Holding) → FindsGraph q.graph g held → (end : End) → IsInputEnd q g held end → IsReadEnd q held end
 for_graph q g None found end i = inr i
 for_graph q g (Some files) found end i = inr (g, found, i)
 
 -- ---- what a run leaves
-module _ (q : Request) (g : Graph) (head : Head) (samples : List ℤ) (bytes : List ℕ) (is : bytes ≡ output_of q g head samples) (short : data_bytes q g head ≤ most_data) where
-  pub written : (old new : Option Holding) → FindsGraph q.graph g old → FindsRecording q.input g head samples old → Holds q.output bytes new → IsWritten q old new
-  written None new graph recording holds = tt
-  written (Some old) None graph recording holds = tt
-  written (Some old) (Some new) graph recording holds = (g, head, samples, record { graph = graph; recording = recording; short = short }, holds ∙ ap Some is)
+pub written : (q : RenderRequest) (bytes : List ℕ) (old new : Option Holding) → IsOutput q old bytes → Holds q.output bytes new → IsWritten q old new
+written q bytes None new is holds = tt
+written q bytes (Some old) None is holds = tt
+written q bytes (Some old) (Some new) (g, head, samples, job, is) holds = (g, head, samples, job, holds ∙ ap Some is)
 
-  pub begun : (old new : Option Holding) → FindsGraph q.graph g old → FindsRecording q.input g head samples old → IsPart q.output bytes old new → IsBegun q old new
-  begun None new graph recording part = tt
-  begun (Some old) None graph recording part = tt
-  begun (Some old) (Some new) graph recording (inl same) = inl same
-  begun (Some old) (Some new) graph recording (inr (n, first)) =
-      inr (g, head, samples, record { graph = graph; recording = recording; short = short }, (n, first ∙ ap (λ b. Some (take n b)) is))
+pub begun : (q : RenderRequest) (bytes : List ℕ) (old new : Option Holding) → IsOutput q old bytes → IsPart q.output bytes old new → IsBegun q old new
+begun q bytes None new is part = tt
+begun q bytes (Some old) None is part = tt
+begun q bytes (Some old) (Some new) is (inl same) = inl same
+begun q bytes (Some old) (Some new) (g, head, samples, job, is) (inr (n, first)) = inr (g, head, samples, job, (n, first ∙ ap (λ b. Some (take n b)) is))
 
-  pub ready : (held : Option Holding) → FindsGraph q.graph g held → FindsRecording q.input g head samples held → MayBeReady q held
-  ready None graph recording = tt
-  ready (Some files) graph recording = (g, head, samples, record { graph = graph; recording = recording; short = short })
+pub ready : (q : RenderRequest) (bytes : List ℕ) (held : Option Holding) → IsOutput q held bytes → MayBeReady q held
+ready q bytes None is = tt
+ready q bytes (Some files) (g, head, samples, job, is) = (g, head, samples, job)
 
--- the same of what is rendered
-module _ (q : Request) (g : Graph) (form : Form) (samples : List ℤ) (bytes : List ℕ) (old : Option Holding) (sound : IsSound g)
-    (read : (h : Head) × IsFormOf q g h form × IsInput q.input g h form.silent samples old)
-    (few : written_frames form * (form.channels * (form.bits / 8)) ≤ most_data) (made : bytes ≡ rendered g form samples) (graph : FindsGraph q.graph g old) where
-  bytes_is : bytes ≡ output_of q g read.0 read.2.recorded
-  bytes_is = made ∙ output_is q g read.0 form read.2.recorded samples (ins_range g sound).0 read.1 read.2.whole read.2.silent
-
-  few_bytes : data_bytes q g read.0 ≤ most_data
-  few_bytes = subst (λ n. n ≤ most_data) (bytes_are q g read.0 form read.1) few
-
-  pub is_written : (new : Option Holding) → Holds q.output bytes new → IsWritten q old new
-  is_written new holds = written q g read.0 read.2.recorded bytes bytes_is few_bytes old new graph read.2.found holds
-
-  pub is_begun : (new : Option Holding) → IsPart q.output bytes old new → IsBegun q old new
-  is_begun new part = begun q g read.0 read.2.recorded bytes bytes_is few_bytes old new graph read.2.found part
-
-  pub is_ready : MayBeReady q old
-  is_ready = ready q g read.0 read.2.recorded bytes bytes_is few_bytes old graph read.2.found
+-- what is rendered is the output
+pub is_output : (q : RenderRequest) (g : Graph) (form : Form) (samples : List ℤ) (bytes : List ℕ) (held : Option Holding) → IsSound g
+    → ((h : Head) × IsFormOf q g h form × IsInput q.input g h form.silent samples held)
+    → written_frames form * (form.channels * (form.bits / 8)) ≤ most_data → bytes ≡ rendered g form samples → FindsGraph q.graph g held → IsOutput q held bytes
+is_output q g form samples bytes None sound read few made graph = tt
+is_output q g form samples bytes (Some files) sound (head, of, input) few made graph = (
+  g,
+  head,
+  input.recorded,
+  record { graph = graph; recording = input.found; short = subst (λ n. n ≤ most_data) (bytes_are q g head form of) few },
+  made ∙ output_is q g head form input.recorded samples (ins_range g sound).0 of input.whole input.silent,
+)
 
 -- ---- the input
 there_is : (o : Option (List ℕ)) (P : List ℕ → Type 0) → (o ≡ None → ⊥) → IfSome o P → (bytes : List ℕ) × (o ≡ Some bytes) × P bytes
@@ -114,7 +110,7 @@ found_more name g (Some files) head samples (bytes, at, reads) told =
     record { bytes = bytes; held = at; head_is = reads; samples_are = subst (λ (o : Option (List ℕ)). IfSome o (λ file. samples ≡ recorded head file)) at told }
 
 -- the end of a file is that of the input
-pub head_ends : (q : Request) (g : Graph) (held : Option Holding) (reads : Type 0) (end : End) → Stops (IsHeadEnd q.input g held) reads end → Stops (IsInputEnd q g held) reads end
+pub head_ends : (q : RenderRequest) (g : Graph) (held : Option Holding) (reads : Type 0) (end : End) → Stops (IsHeadEnd q.input g held) reads end → Stops (IsInputEnd q g held) reads end
 head_ends q g held reads end (inr more) = inr more
 head_ends q g None reads end (inl is) = inl is
 head_ends q g (Some files) reads ReadFault (inl none) = inl none
@@ -125,15 +121,19 @@ head_ends q g (Some files) reads SameName (inl r) = absurd r
 head_ends q g (Some files) reads (Records fault) (inl r) = absurd r
 head_ends q g (Some files) reads (Checks fault) (inl r) = absurd r
 head_ends q g (Some files) reads WriteFault (inl r) = absurd r
+head_ends q g (Some files) reads (No rule place) (inl r) = absurd r
+head_ends q g (Some files) reads Seed (inl r) = absurd r
+head_ends q g (Some files) reads ReportFault (inl r) = absurd r
+head_ends q g (Some files) reads (PlanText line) (inl r) = absurd r
 head_ends q g (Some files) reads Memory (inl r) = absurd r
 
-pub long_ends : (q : Request) (g : Graph) (held : Option Holding) (reads : Type 0) (head : Head) (end : End) → FindsHead q.input g head held → IsTooLong q g head end
+pub long_ends : (q : RenderRequest) (g : Graph) (held : Option Holding) (reads : Type 0) (head : Head) (end : End) → FindsHead q.input g head held → IsTooLong q g head end
     → Stops (IsInputEnd q g held) reads end
 long_ends q g None reads head end found (long, is) = inl (subst (λ (e : End). IsRefusal e) (sym is) tt)
 long_ends q g (Some files) reads head end (bytes, at, is_head) (long, is) =
     inl (subst (λ (e : End). IsInputEnd q g (Some files) e) (sym is) (bytes, at, inr (head, is_head, long, refl)))
 
-pub reading_ends : (q : Request) (g : Graph) (held : Option Holding) (later reads : Type 0) (end : End) → (later → reads) → Stops (λ e. ⊥) later end → Stops (IsInputEnd q g held) reads end
+pub reading_ends : (q : RenderRequest) (g : Graph) (held : Option Holding) (later reads : Type 0) (end : End) → (later → reads) → Stops (λ e. ⊥) later end → Stops (IsInputEnd q g held) reads end
 reading_ends q g held later reads end since (inl r) = absurd r
 reading_ends q g held later reads end since (inr (inl r)) = inr (inl (r.0, since r.1))
 reading_ends q g held later reads end since (inr (inr m)) = inr (inr m)

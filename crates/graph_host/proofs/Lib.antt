@@ -1,6 +1,6 @@
-mod Numerals
 mod ChannelLaws
 mod PartLaws
 mod OutputLaws
 mod EndLaws
 mod EndOnce
+mod RunLaws

@@ -17,8 +17,8 @@ use Rattle.graph_model.specs.Graphs.{in_channels, out_channels}
 use Rattle.graph_host.specs.Outputs.{answered, data_bytes, left_out, output_of, silent_frames}
 use Rattle.graph_host.specs.Files.{rendered}
 use Rattle.graph_host.specs.Forms.{written_frames, IsForm, IsFormOf}
-use Rattle.graph_host.specs.Requests.{Request}
-use Rattle.graph_host.specs.declared.forms.Form.{Form}
+use Rattle.command_words.specs.Rendering.{RenderRequest}
+use Rattle.graph_host.specs.declared.output.forms.Form.{Form}
 
 -- the answer is as long as the input, on the channels of the output node
 pub length-answer : (g : Graph) (h : History) → length (interleaved (answer g h)) ≡ length h * out_channels g
@@ -107,7 +107,7 @@ with_silence m n k samples some whole =
     ∙ ap (λ h. h ++ frames_of m samples) (frames_of-silence k m some)
 
 -- what is rendered of samples and silence is the request's output
-pub output_is : (q : Request) (g : Graph) (head : Head) (form : Form) (recorded samples : List ℤ) → 1 ≤ in_channels g → IsFormOf q g head form
+pub output_is : (q : RenderRequest) (g : Graph) (head : Head) (form : Form) (recorded samples : List ℤ) → 1 ≤ in_channels g → IsFormOf q g head form
     → length recorded ≡ head.frames * in_channels g → samples ≡ recorded ++ replicate (form.silent * in_channels g) (pos 0)
     → rendered g form samples ≡ output_of q g head recorded
 output_is q g head form recorded samples some of whole silent =
@@ -122,7 +122,7 @@ output_is q g head form recorded samples some of whole silent =
     ∙ ap (λ n. wave_file_of (out_channels g) head.rate n (drop (left_out q g * out_channels g) (answered g (silent_frames q g) recorded))) of.bits
 
 -- and its bytes of frames are those of the form
-pub bytes_are : (q : Request) (g : Graph) (head : Head) (form : Form) → IsFormOf q g head form → written_frames form * (form.channels * (form.bits / 8)) ≡ data_bytes q g head
+pub bytes_are : (q : RenderRequest) (g : Graph) (head : Head) (form : Form) → IsFormOf q g head form → written_frames form * (form.channels * (form.bits / 8)) ≡ data_bytes q g head
 bytes_are q g head form of =
     ap (λ n. (n - form.skipped) * (form.channels * (form.bits / 8))) (of.frames ∙ ap (λ k. head.frames + k) of.silent)
     ∙ ap (λ k. (head.frames + silent_frames q g - k) * (form.channels * (form.bits / 8))) of.skipped

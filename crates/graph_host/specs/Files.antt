@@ -6,8 +6,8 @@ use Rattle.graph_model.specs.declared.graph.Graph.{Graph}
 use Rattle.wav_pcm.specs.Heads.{wave_file_of}
 use Rattle.wav_pcm.specs.Samples.{IsSize, bytes_of}
 use Rattle.graph_model.specs.Graphs.{in_channels}
-use Rattle.graph_host.specs.declared.forms.Form.{Form}
-use Rattle.graph_host.specs.declared.output.OutputFile.{OutputFile}
+use Rattle.graph_host.specs.declared.output.forms.Form.{Form}
+use Rattle.graph_host.specs.declared.output.files.OutputFile.{OutputFile}
 
 -- the head, the frames, and a byte 0 where the bytes of the frames are odd in number
 abbrev pub file_of : OutputFile → List ℕ

@@ -1,17 +1,12 @@
 -- The form of an output file.
-use Rattle.std.specs.Prelude.{◌≡◌, ℕ, ◌+◌, ◌-◌, ◌≤◌, Option, Some, None, ⊤}
+use Rattle.std.specs.Prelude.{◌≡◌, ℕ, ◌+◌, ◌-◌, ◌≤◌}
 use Rattle.graph_model.specs.declared.graph.Graph.{Graph}
 use Rattle.wav_pcm.specs.Samples.{IsSize}
 use Rattle.wav_pcm.specs.declared.head.Head.{Head}
 use Rattle.graph_model.specs.Graphs.{out_channels}
 use Rattle.graph_host.specs.Outputs.{left_out, sample_size, silent_frames}
-use Rattle.graph_host.specs.Requests.{Request}
-use Rattle.graph_host.specs.declared.forms.Form.{Form}
-
--- a size that is asked for is one of a sample
-abbrev pub HasSize : Option ℕ → Type 0
-HasSize None = ⊤
-HasSize (Some bits) = IsSize bits
+use Rattle.command_words.specs.Rendering.{RenderRequest}
+use Rattle.graph_host.specs.declared.output.forms.Form.{Form}
 
 -- how many frames are written
 abbrev pub written_frames : Form → ℕ
@@ -26,7 +21,7 @@ pub record IsForm (f : Form) : Type 0 where
   pub size : IsSize f.bits
 
 -- it is that of a request's output, for the head of its input
-pub record IsFormOf (q : Request) (g : Graph) (head : Head) (f : Form) : Type 0 where
+pub record IsFormOf (q : RenderRequest) (g : Graph) (head : Head) (f : Form) : Type 0 where
   pub channels : f.channels ≡ out_channels g
   pub rate : f.rate ≡ head.rate
   pub bits : f.bits ≡ sample_size q head

@@ -7,10 +7,10 @@ use Rattle.graph_model.specs.Answers.{answer}
 use Rattle.graph_model.specs.declared.graph.Graph.{Graph}
 use Rattle.wav_pcm.specs.Heads.{wave_file_of}
 use Rattle.wav_pcm.specs.declared.head.Head.{Head}
-use Rattle.graph_host.specs.Requests.{Request}
+use Rattle.command_words.specs.Rendering.{RenderRequest}
 
 -- how many frames of silence come after the input: as many as the graph's latency, and the tail
-abbrev pub silent_frames : Request → Graph → ℕ
+abbrev pub silent_frames : RenderRequest → Graph → ℕ
 silent_frames q g = latency_of_graph g + q.tail
 
 -- the graph's answer to the frames of the samples and then k frames of silence, interleaved
@@ -22,18 +22,18 @@ abbrev pub chosen : Option ℕ → ℕ → ℕ
 chosen None bits = bits
 chosen (Some asked) bits = asked
 
-abbrev pub sample_size : Request → Head → ℕ
+abbrev pub sample_size : RenderRequest → Head → ℕ
 sample_size q head = chosen q.bits head.bits
 
 -- how many of the answer's first frames are left out: as many as the graph's latency, where that is asked
-abbrev pub left_out : Request → Graph → ℕ
+abbrev pub left_out : RenderRequest → Graph → ℕ
 left_out q g = if q.compensate then latency_of_graph g else 0
 
 -- the output file
-abbrev pub output_of : Request → Graph → Head → List ℤ → List ℕ
+abbrev pub output_of : RenderRequest → Graph → Head → List ℤ → List ℕ
 output_of q g head samples =
     wave_file_of (out_channels g) head.rate (sample_size q head) (drop (left_out q g * out_channels g) (answered g (silent_frames q g) samples))
 
 -- the bytes of its frames: one frame for each that is read, and for each of silence, but for those that are left out
-abbrev pub data_bytes : Request → Graph → Head → ℕ
+abbrev pub data_bytes : RenderRequest → Graph → Head → ℕ
 data_bytes q g head = (head.frames + silent_frames q g - left_out q g) * (out_channels g * (sample_size q head / 8))

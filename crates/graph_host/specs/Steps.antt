@@ -10,26 +10,16 @@ use Rattle.wav_pcm.specs.declared.head.WavFault.TheVariants.{TooLong}
 use Rattle.graph_host.specs.Causes.{IsRefusal}
 use Rattle.graph_model.specs.Graphs.{in_channels}
 use Rattle.graph_host.specs.Outputs.{data_bytes}
-use Rattle.graph_host.specs.Requests.{Request}
+use Rattle.command_words.specs.Rendering.{RenderRequest}
 use Rattle.graph_host.specs.declared.ends.End.{End}
 use Rattle.graph_host.specs.declared.ends.End.TheVariants.{Graph as Checks, Wav, ReadFault, Memory}
-use Rattle.graph_host.specs.Readings.{HoldsRecords, HoldsGraph, HoldsRecording}
-
--- the name holds the records of this graph
-abbrev pub FindsRecords : List ℕ → Graph → Option Holding → Type 0
-FindsRecords name g None = ⊤
-FindsRecords name g (Some files) = HoldsRecords name g files
+use Rattle.graph_host.specs.Readings.{HoldsRecording}
 
 -- the checks of a graph end it so
 abbrev pub Refuses : Graph → End → Type 0
 Refuses g (Checks fault) = IsFirstFault g fault
 Refuses g Memory = ⊤
 Refuses g end = ⊥
-
--- the same of a sound graph
-abbrev pub FindsGraph : List ℕ → Graph → Option Holding → Type 0
-FindsGraph name g None = ⊤
-FindsGraph name g (Some files) = HoldsGraph name g files
 
 -- the name holds a file with this head
 abbrev pub FindsHead : List ℕ → Graph → Head → Option Holding → Type 0
@@ -44,7 +34,7 @@ IsHeadEnd name g (Some files) (Wav fault) = (bytes : List ℕ) × (files name �
 IsHeadEnd name g (Some files) end = ⊥
 
 -- the output has more bytes of frames than a WAV file can
-abbrev pub IsTooLong : Request → Graph → Head → End → Type 0
+abbrev pub IsTooLong : RenderRequest → Graph → Head → End → Type 0
 IsTooLong q g head end = (most_data < data_bytes q g head) × (end ≡ Wav (TooLong (min (data_bytes q g head) (2 ^ 64 - 1))))
 
 -- the name holds a file with this head and these samples

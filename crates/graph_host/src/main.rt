@@ -1,25 +1,22 @@
-//! The program `graph_host`: renders a WAV file through a graph of audio processors.
+//! The program `graph_host`: an offline host for graphs of audio processors.
 //!
 //! `run` is all that the program does: `main` makes the real folder and sink, hands them to `run` with the words of
 //! the command line, prints the text of the end on standard error and ends with its status. What `run` promises holds
-//! of every folder and sink: which words are a request, that the output file is exactly the graph's answer, each node
-//! at its reach, that nothing else changed, that a write that fails leaves a first part of that file, and why each
-//! other end came. It renders where the nodes stand with the fewest delay samples, which does not show in the answer.
+//! of every folder and sink, for each of its modes: `render` writes exactly the graph's answer to a WAV file and reports
+//! the plan, `compile` reports the plan, `check` judges a plan, `demo` shows a graph that is made of a number. Every plan
+//! that it makes is certified and has the least latency, delay and buffers; a write or a report that fails leaves a
+//! first part of what was to come; nothing else changes; and every other end has its stated cause.
 //!
-//! It stands on graph_model (what a graph is, and its answer), graph_records (graphs in JSON), wav_pcm (WAV files),
-//! alignment (where the nodes stand), renderer (the answer's samples) and gh_outside (files and what is printed).
+//! It stands on command_words (what the words ask for), graph_model (what a graph is, and its answer), graph_records
+//! (graphs in JSON), wav_pcm (WAV files), plan_compiler, plan_text and plan_checker (plans made, printed, read and
+//! judged), graph_gen (graphs of numbers), renderer (the answer's samples) and gh_outside (files and the report).
 #![tactic(auto)]
 
 mod ends;
-mod forms;
-mod graphs;
 pub mod laws;
-mod load;
-mod number;
+mod modes;
 mod output;
-mod recordings;
-mod render;
-mod request;
+mod reading;
 mod status;
 mod top_call;
 
@@ -49,7 +46,7 @@ fn main(rt: HostRuntime) -> ExitCode {
     let words = match words(&rt) {
         Ok(words) => words,
         Err(error) => match error.kind() {
-            ErrorKind::OutOfMemory => return print_end(&rt, status::ended(End::Memory)),
+            ErrorKind::OutOfMemory => return print_end(&rt, status::ended(End::Memory, None)),
             _ => {
                 let _ = eprintln!(rt; "graph_host: the words were not given");
                 return ExitCode::from(NO_WORDS);
@@ -62,13 +59,13 @@ fn main(rt: HostRuntime) -> ExitCode {
     print_end(&rt, run)
 }
 
-/// Prints the text of an end, but for one that is done, and gives its status.
+/// Prints the text of an end, but for a work that is done or a plan that is refused, and gives its status.
 fn print_end<R: Eprint>(rt: &R, run: Run) -> ExitCode {
-    if run.end != End::Done {
-        let _ = eprintln!(rt; "graph_host: {}", run.end);
+    match run.end {
+        End::Done | End::No { .. } => {}
+        _ => {
+            let _ = eprintln!(rt; "graph_host: {}", run.end);
+        }
     }
     ExitCode::from(run.status)
 }
-
-#[cfg(test)]
-mod tests;

@@ -4,20 +4,25 @@ ghost use Rattle.std.specs.Prelude.{◌≡◌};
 ghost use Rattle.graph_host.specs.Ends.{status_of};
 
 use crate::ends::{End, Run};
+use plan_model::Plan;
 
-/// An end with its status.
-pub(crate) fn ended(end: End) -> Run
+/// An end with its status, and the plan that it comes with.
+pub(crate) fn ended(end: End, plan: Option<Plan>) -> Run
     ensures end { result.end ≡ end }
+    ensures plan { result.plan ≡ plan }
     ensures status { result.status ≡ status_of end }
 {
     let status = match &end {
         End::Done => 0,
-        End::Words | End::SameName => 2,
+        End::No { .. } => 1,
+        End::Words | End::SameName | End::Seed => 2,
         End::Records(_) | End::Graph(_) => 3,
         End::Wav(_) => 4,
         End::ReadFault => 5,
         End::WriteFault => 6,
+        End::ReportFault => 7,
         End::Memory => 8,
+        End::PlanText { .. } => 9,
     };
-    Run { status, end }
+    Run { status, end, plan }
 }

@@ -1,29 +1,71 @@
 //! The top call.
 
-ghost use Rattle.std.specs.Prelude.{◌≡◌, ◌≤◌, ◌⊎◌, ◌↔◌, None, Some, map, string_bytes};
-ghost use Rattle.std.specs.Option.{IfSome, IsSomeAnd};
+ghost use Rattle.std.specs.Prelude.{◌≡◌, ◌≤◌, ◌⊎◌, Err as Refuses, IfOk, map, string_bytes};
+ghost use Rattle.command_words.specs.Requests.{request_of, said};
+ghost use Rattle.command_words.specs.declared.fault.WordsFault.TheVariants.{NoRequest, OutOfRange};
+ghost use Rattle.graph_model.specs.Refusals.{Gives, mapped};
 ghost use Rattle.gh_outside.specs.Causes.{Rose};
-ghost use Rattle.gh_outside.specs.Holdings.{KeepsOthers};
-ghost use Rattle.graph_host.specs.Causes.{plain, IsCaused, IsEndOf, IsToldEnd};
-ghost use Rattle.graph_host.specs.Ends.{status_of};
-ghost use Rattle.graph_host.specs.Requests.{request_of};
+ghost use Rattle.graph_host.specs.Asked.{Asked, IfRender, IsRender};
+ghost use Rattle.graph_host.specs.Causes.{plain, IsCaused, IsToldEnd};
+ghost use Rattle.graph_host.specs.Ends.{status_of, EndsJust};
+ghost use Rattle.graph_host.specs.Outside.{outside};
 ghost use Rattle.graph_host.specs.Readings.{IsBegun, IsWritten};
+ghost use Rattle.graph_host.specs.Runs.{IsRun, KeepsFiles};
+ghost use Rattle.graph_host.specs.Works.{IsAnswered};
 ghost use Rattle.graph_host.specs.declared.ends.End.{End as AnyEnd};
+ghost use Rattle.command_words.specs.Requests.{IsInRange};
 
 use crate::ends::{End, Run};
-use crate::render::render;
-use crate::request::request;
+use crate::modes::check::check;
+use crate::modes::compile::compile;
+use crate::modes::demo::demo;
+use crate::modes::render::render;
 use crate::status::ended;
+use command_words::{Request, WordsFault, request};
 use gh_outside::{Folder, Sink};
+use graph_model::Refused;
 use std::alloc::Global;
 use std::thread::Threads;
 
-/// Does what the words ask for: `render GRAPH IN OUT [--tail T] [--bits B] [--compensate]` reads a graph in JSON and a
-/// WAV file from the folder, and writes the WAV file that the graph makes of it and of T frames of silence after it, with
-/// samples of B bits, or of as many as the input has; the frames of the graph's latency come first, or are left out. The
-/// words are those after the program's name. Nothing is reported yet.
+/// Does what is asked for.
+fn perform<F: Folder, R: Sink>(
+    alloc: Global,
+    asked: Result<Request, Refused<WordsFault>>,
+    folder: &mut F,
+    report: &mut R,
+) -> Run
+    requires range { IfOk asked.entry (λ r. IsInRange (said r)) }
+    ensures status { result.status ≡ status_of result.end }
+    ensures run { (a : Asked) → Gives a (mapped said asked.entry) → IsRun a
+        (outside (F.held folder.old) (F.read_faults folder.old) (F.write_faults folder.old) (R.bytes report.old) (R.faults report.old))
+        (outside (F.held folder.new) (F.read_faults folder.new) (F.write_faults folder.new) (R.bytes report.new) (R.faults report.new))
+        result.end result.plan }
+{
+    match asked {
+        Ok(Request::Render(request)) => render(alloc, &request, folder, report),
+        Ok(Request::Compile(request)) => compile(alloc, &request, folder, report),
+        Ok(Request::Check(request)) => check(alloc, &request, folder, report),
+        Ok(Request::Demo(request)) => demo(alloc, &request, folder, report),
+        Err(Refused::Fault(WordsFault::NoRequest)) => ended(End::Words, None),
+        Err(Refused::Fault(WordsFault::OutOfRange)) => ended(End::Seed, None),
+        Err(Refused::Memory) => ended(End::Memory, None),
+    }
+}
+
+/// Does what the words ask for. They are those after the program's name, the first is the mode, and `clap` reads the
+/// others by the command of the mode, options anywhere:
 ///
-/// What is said of files holds where the folder tells what it holds; what is said of counts holds always.
+/// - `render GRAPH IN OUT [--block N | --cuts a,b,..] [--tail T] [--compensate] [--waves] [--bits B]` reads a graph in
+///   JSON and a WAV file, reports the text of the graph's plan, and writes the WAV file that the graph makes of the
+///   input and of T frames of silence after it. Its samples have B bits, or as many as the input's. The frames of the
+///   graph's latency come first, or are left out. Blocks and cuts do not show in it.
+/// - `compile GRAPH [--waves]` reports the text of the graph's plan, one by one or by waves.
+/// - `check GRAPH PLAN` reports whether the plan is certified for the graph: `yes`, or `no RULE PLACE`.
+/// - `demo SEED NODES` makes a graph of NODES nodes of a number, compiles, judges and renders it in memory, and reports
+///   six lines on it.
+///
+/// What is said of files holds where the folder tells what it holds, what is said of the report where it tells; what is
+/// said of counts holds always.
 pub fn run<T: Threads + Sync, F: Folder, R: Sink>(
     rt: &T,
     alloc: Global,
@@ -33,41 +75,41 @@ pub fn run<T: Threads + Sync, F: Folder, R: Sink>(
 ) -> Run
     ensures status { result.status ≡ status_of result.end }
 
-    // Words that are no request end so, and no others do; and so it is with one name for two files.
-    ensures words { (result.end ≡ End.Words) ↔ (request_of (map string_bytes words.items) ≡ None) }
-    ensures same_name { (result.end ≡ End.SameName) ↔ IsSomeAnd (request_of (map string_bytes words.items)) (λ q. q.input ≡ q.output) }
+    // Words that are no request end so, and no others do; so it is with a number of `demo` that is out of range, and
+    // with one name for two files.
+    ensures words { EndsJust result.end End.Words (request_of (map string_bytes words.items) ≡ Refuses NoRequest) }
+    ensures seed { EndsJust result.end End.Seed (request_of (map string_bytes words.items) ≡ Refuses OutOfRange) }
+    ensures same_name { EndsJust result.end End.SameName (IsRender (request_of (map string_bytes words.items)) (λ q. q.input ≡ q.output)) }
 
-    // What is left: the output file whole, or a first part of it; nothing else changes, and nothing at all but at these two ends.
-    ensures done { result.end ≡ End.Done → IfSome (request_of (map string_bytes words.items)) (λ q. IsWritten q (F.held folder.old) (F.held folder.new)) }
-    ensures begun { IfSome (request_of (map string_bytes words.items)) (λ q. IsBegun q (F.held folder.old) (F.held folder.new)) }
-    ensures kept { IfSome (request_of (map string_bytes words.items)) (λ q. KeepsOthers q.output (F.held folder.old) (F.held folder.new)) }
+    // What is left of the files: the output whole, or a first part of it; nothing else changes, and nothing at all but
+    // at these two ends.
+    ensures done { result.end ≡ End.Done → IfRender (request_of (map string_bytes words.items)) (λ q. IsWritten q (F.held folder.old) (F.held folder.new)) }
+    ensures begun { IfRender (request_of (map string_bytes words.items)) (λ q. IsBegun q (F.held folder.old) (F.held folder.new)) }
+    ensures kept { KeepsFiles (request_of (map string_bytes words.items)) (F.held folder.old) (F.held folder.new) }
     ensures untouched { (result.end ≡ End.Done) ⊎ (result.end ≡ End.WriteFault) ⊎ (F.held folder.new ≡ F.held folder.old) }
 
-    // Why it ended: by what the files hold, unless a call of the folder failed or there was no memory.
-    ensures cause { IfSome (request_of (map string_bytes words.items)) (λ q. IsCaused q (F.held folder.old)
-        (Rose (F.read_faults folder.old) (F.read_faults folder.new)) (Rose (F.write_faults folder.old) (F.write_faults folder.new)) result.end) }
+    // The plan that is handed back, and what the report has gained: the text of that plan, or what is said of it. A plan
+    // that was compiled is certified and has the least latency, delay and channels; and so has one that is judged yes.
+    ensures answered { IsAnswered (request_of (map string_bytes words.items)) (F.held folder.old) result.end result.plan (R.bytes report.old) (R.bytes report.new) }
 
-    // And so it ends exactly as the files say, if no call of the folder fails and there is memory.
-    ensures exact { IfSome (request_of (map string_bytes words.items)) (λ q. (end : AnyEnd) → IsToldEnd q (F.held folder.old) end
+    // Why it ended: by what the files hold, unless a call of the outside failed or there was no memory.
+    ensures cause { IsCaused (request_of (map string_bytes words.items)) (F.held folder.old)
+        (Rose (F.read_faults folder.old) (F.read_faults folder.new)) (Rose (F.write_faults folder.old) (F.write_faults folder.new))
+        (Rose (R.faults report.old) (R.faults report.new)) result.end }
+
+    // And so it ends exactly as the files say, if no call of the outside fails and there is memory.
+    ensures exact { (end : AnyEnd) → IsToldEnd (request_of (map string_bytes words.items)) (F.held folder.old) end
         → (Rose (F.read_faults folder.old) (F.read_faults folder.new) → ⊥) → (Rose (F.write_faults folder.old) (F.write_faults folder.new) → ⊥)
-        → (plain result.end ≡ plain end) ⊎ (result.end ≡ End.Memory)) }
+        → (Rose (R.faults report.old) (R.faults report.new) → ⊥)
+        → (plain result.end ≡ plain end) ⊎ (result.end ≡ End.Memory) }
 
     // Counts never fall, and no write fails before the output is created.
     ensures reads { F.read_faults folder.old ≤ F.read_faults folder.new }
     ensures writes { F.write_faults folder.old ≤ F.write_faults folder.new }
     ensures unwritten { (result.end ≡ End.Done) ⊎ (result.end ≡ End.WriteFault) ⊎ (F.write_faults folder.new ≡ F.write_faults folder.old) }
-
-    // Nothing is reported yet.
-    ensures report { (R.bytes report.new ≡ R.bytes report.old) × (R.faults report.new ≡ R.faults report.old) }
+    ensures reports { R.faults report.old ≤ R.faults report.new }
 {
     let _ = rt;
-    let _ = report;
-    match request(words.as_slice()) {
-        None => ended(End::Words),
-        Some(request) if request.input == request.output => ended(End::SameName),
-        Some(request) => match render(alloc, folder, &request) {
-            Ok(()) => ended(End::Done),
-            Err(end) => ended(end),
-        },
-    }
+    let asked = request(alloc, words.as_slice());
+    perform(alloc, asked, folder, report)
 }
