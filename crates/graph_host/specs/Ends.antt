@@ -1,7 +1,7 @@
--- Ends, their status, and which come before anything is reported.
-use Rattle.std.specs.Prelude.{◌≡◌, ◌⊎◌, ℕ, ⊤}
-use Rattle.graph_host.specs.declared.ends.End.{End}
-use Rattle.graph_host.specs.declared.ends.End.TheVariants.{Done, No, Words, SameName, Seed, Records, Graph, Wav, ReadFault, WriteFault, ReportFault, Memory, PlanText}
+-- The status of each end, and when an end comes.
+use Rattle.std.specs.Prelude.{◌≡◌, ◌⊎◌, ℕ}
+use Rattle.host_modes.specs.declared.ends.End.{End}
+use Rattle.host_modes.specs.declared.ends.End.TheVariants.{Done, No, Words, SameName, Seed, Records, Graph, Wav, ReadFault, WriteFault, ReportFault, Memory, PlanText}
 
 abbrev pub status_of : End → ℕ
 status_of Done = 0
@@ -17,14 +17,6 @@ status_of WriteFault = 6
 status_of ReportFault = 7
 status_of Memory = 8
 status_of (PlanText line) = 9
-
--- it comes before the report is put
-abbrev pub IsEarly : End → Type 0
-IsEarly Done = ⊥
-IsEarly (No rule place) = ⊥
-IsEarly WriteFault = ⊥
-IsEarly ReportFault = ⊥
-IsEarly end = ⊤
 
 -- it ends so just where this holds, but for want of memory
 abbrev pub EndsJust : End → End → Type 0 → Type 0

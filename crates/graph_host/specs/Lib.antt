@@ -1,15 +1,1 @@
-pub mod Asked
-pub mod Outside
 pub mod Ends
-pub mod Outputs
-pub mod Forms
-pub mod Demos
-pub mod Readings
-pub mod Plans
-pub mod Works
-pub mod Causes
-pub mod Steps
-pub mod Recordings
-pub mod Files
-pub mod Runs
-pub mod Laws

@@ -7,21 +7,17 @@
 //! that it makes is certified and has the least latency, delay and buffers; a write or a report that fails leaves a
 //! first part of what was to come; nothing else changes; and every other end has its stated cause.
 //!
-//! It stands on command_words (what the words ask for), graph_model (what a graph is, and its answer), graph_records
-//! (graphs in JSON), wav_pcm (WAV files), plan_compiler, plan_text and plan_checker (plans made, printed, read and
-//! judged), graph_gen (graphs of numbers), renderer (the answer's samples) and gh_outside (files and the report).
+//! It stands on host_modes, which does the work of each mode, on what command_words says that the words ask for, and on
+//! gh_outside for files and the report.
 #![tactic(auto)]
 
-mod ends;
-pub mod laws;
-mod modes;
-mod output;
-mod reading;
+mod runs;
 mod status;
 mod top_call;
 
-pub use ends::{End, Run};
 use gh_outside::{DiskFolder, WriterSink};
+pub use host_modes::End;
+pub use runs::Run;
 use std::env;
 use std::io::{self, ErrorKind};
 use std::process::ExitCode;

@@ -3,7 +3,8 @@
 ghost use Rattle.std.specs.Prelude.{◌≡◌};
 ghost use Rattle.graph_host.specs.Ends.{status_of};
 
-use crate::ends::{End, Run};
+use crate::runs::Run;
+use host_modes::End;
 use plan_model::Plan;
 
 /// An end with its status, and the plan that it comes with.

@@ -1,19 +1,16 @@
 //! The top call.
 
-ghost use Rattle.std.specs.Prelude.{◌≡◌, ◌≤◌, ◌⊎◌, Err as Refuses, IfOk, map, string_bytes};
-ghost use Rattle.command_words.specs.Requests.{request_of, said};
+ghost use Rattle.std.specs.Prelude.{◌≡◌, ◌≤◌, ◌⊎◌, Err as Refuses, map, string_bytes};
+ghost use Rattle.command_words.specs.Requests.{request_of};
 ghost use Rattle.command_words.specs.declared.fault.WordsFault.TheVariants.{NoRequest, OutOfRange};
-ghost use Rattle.graph_model.specs.Refusals.{Gives, mapped};
 ghost use Rattle.gh_outside.specs.Causes.{Rose};
-ghost use Rattle.graph_host.specs.Asked.{Asked, IfRender, IsRender};
-ghost use Rattle.graph_host.specs.Causes.{plain, IsCaused, IsToldEnd};
+ghost use Rattle.host_modes.specs.Asked.{IfRender, IsRender};
+ghost use Rattle.host_modes.specs.Causes.{plain, IsCaused, IsToldEnd};
 ghost use Rattle.graph_host.specs.Ends.{status_of, EndsJust};
-ghost use Rattle.graph_host.specs.Outside.{outside};
-ghost use Rattle.graph_host.specs.Readings.{IsBegun, IsWritten};
-ghost use Rattle.graph_host.specs.Runs.{IsRun, KeepsFiles};
-ghost use Rattle.graph_host.specs.Works.{IsAnswered};
-ghost use Rattle.graph_host.specs.declared.ends.End.{End as AnyEnd};
-ghost use Rattle.command_words.specs.Requests.{IsInRange};
+ghost use Rattle.host_modes.specs.Readings.{IsBegun, IsWritten};
+ghost use Rattle.host_modes.specs.Runs.{KeepsFiles};
+ghost use Rattle.host_modes.specs.Works.{IsAnswered};
+ghost use Rattle.host_modes.specs.declared.ends.End.{End as AnyEnd};
 
 use crate::ends::{End, Run};
 use crate::modes::check::check;
@@ -26,31 +23,6 @@ use gh_outside::{Folder, Sink};
 use graph_model::Refused;
 use std::alloc::Global;
 use std::thread::Threads;
-
-/// Does what is asked for.
-fn perform<F: Folder, R: Sink>(
-    alloc: Global,
-    asked: Result<Request, Refused<WordsFault>>,
-    folder: &mut F,
-    report: &mut R,
-) -> Run
-    requires range { IfOk asked.entry (λ r. IsInRange (said r)) }
-    ensures status { result.status ≡ status_of result.end }
-    ensures run { (a : Asked) → Gives a (mapped said asked.entry) → IsRun a
-        (outside (F.held folder.old) (F.read_faults folder.old) (F.write_faults folder.old) (R.bytes report.old) (R.faults report.old))
-        (outside (F.held folder.new) (F.read_faults folder.new) (F.write_faults folder.new) (R.bytes report.new) (R.faults report.new))
-        result.end result.plan }
-{
-    match asked {
-        Ok(Request::Render(request)) => render(alloc, &request, folder, report),
-        Ok(Request::Compile(request)) => compile(alloc, &request, folder, report),
-        Ok(Request::Check(request)) => check(alloc, &request, folder, report),
-        Ok(Request::Demo(request)) => demo(alloc, &request, folder, report),
-        Err(Refused::Fault(WordsFault::NoRequest)) => ended(End::Words, None),
-        Err(Refused::Fault(WordsFault::OutOfRange)) => ended(End::Seed, None),
-        Err(Refused::Memory) => ended(End::Memory, None),
-    }
-}
 
 /// Does what the words ask for. They are those after the program's name, the first is the mode, and `clap` reads the
 /// others by the command of the mode, options anywhere:
@@ -110,6 +82,6 @@ pub fn run<T: Threads + Sync, F: Folder, R: Sink>(
     ensures reports { R.faults report.old ≤ R.faults report.new }
 {
     let _ = rt;
-    let asked = request(alloc, words.as_slice());
-    perform(alloc, asked, folder, report)
+    let outcome = perform(alloc, words.as_slice(), folder, report);
+    ended(outcome.end, outcome.plan)
 }

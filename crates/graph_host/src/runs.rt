@@ -1,0 +1,17 @@
+//! What a run hands back.
+
+ghost use Rattle.std.specs.Prelude.{◌≡◌};
+
+use host_modes::End;
+use plan_model::Plan;
+
+/// What a run hands back.
+#[derive(Debug, PartialEq, Eq, Drop)]
+pub struct Run {
+    /// The program's exit status.
+    pub status: u8,
+    /// How it ended.
+    pub end: End,
+    /// The plan that was made, or judged in `check`, where the run came to its report.
+    pub plan: Option<Plan>,
+}

@@ -1,0 +1,221 @@
+-- What a run leaves, end by end.
+use Rattle.std.proofs.Common.{◌≡◌, ℕ, List, Option, Some, None, refl, sym, subst, inl, inr, ◌≤◌, arith}
+use Rattle.std.specs.Prelude.{◌⊎◌, Ok, Err}
+use Rattle.plan_model.specs.declared.plan.Plan.{Plan}
+use Rattle.plan_model.specs.declared.rule.Rule.{Rule}
+use Rattle.gh_outside.specs.Causes.{Rose}
+use Rattle.gh_outside.specs.Holdings.{Holding, KeepsOthers, GainsAll, GainsPrefix}
+use Rattle.command_words.specs.Rendering.{RenderRequest}
+use Rattle.command_words.specs.Requests.{render, compile, check, demo}
+use Rattle.host_modes.specs.Asked.{Asked, IfRender}
+use Rattle.host_modes.specs.Causes.{IsCaused, IsEndBy, Reads, Stops}
+use Rattle.host_modes.specs.Ends.{IsEarly}
+use Rattle.host_modes.specs.Outside.{outside, Outside}
+use Rattle.host_modes.specs.Plans.{IsJudged, IsPlanUnder, IsVerdict}
+use Rattle.host_modes.specs.Readings.{IsBegun, IsWritten, MayBeReady, MayHoldGraph}
+use Rattle.host_modes.specs.Runs.{IsQuiet, IsRun, KeepsFiles}
+use Rattle.host_modes.specs.Works.{IsAnswered, IsWork}
+use Rattle.host_modes.proofs.EndOnce.{verdict_case}
+use Rattle.host_modes.specs.declared.ends.End.{End}
+use Rattle.host_modes.specs.declared.ends.End.TheVariants.{Done, No, Words, SameName, Seed, Records, Graph as Checks, Wav, ReadFault, WriteFault, ReportFault, Memory, PlanText}
+
+-- ---- files that stay
+unbegun : (q : RenderRequest) (held : Option Holding) → IsBegun q held held
+unbegun q None = tt
+unbegun q (Some files) = inl refl
+
+keeps_itself : (name : List ℕ) (held : Option Holding) → KeepsOthers name held held
+keeps_itself name None = tt
+keeps_itself name (Some files) = λ other differs. refl
+
+if_render : (asked : Asked) (P : RenderRequest → Type 0) → ((q : RenderRequest) → P q) → IfRender asked P
+if_render (Ok (render q)) P all = all q
+if_render (Ok (compile q)) P all = tt
+if_render (Ok (check q)) P all = tt
+if_render (Ok (demo q)) P all = tt
+if_render (Err fault) P all = tt
+
+if_quiet : (asked : Asked) (P : RenderRequest → Type 0) → IsQuiet asked → IfRender asked P
+if_quiet (Ok (render q)) P quiet = absurd quiet
+if_quiet (Ok (compile q)) P quiet = tt
+if_quiet (Ok (check q)) P quiet = tt
+if_quiet (Ok (demo q)) P quiet = tt
+if_quiet (Err fault) P quiet = tt
+
+keeps_files : (asked : Asked) (held : Option Holding) → KeepsFiles asked held held
+keeps_files (Ok (render q)) held = keeps_itself q.output held
+keeps_files (Ok (compile q)) held = refl
+keeps_files (Ok (check q)) held = refl
+keeps_files (Ok (demo q)) held = refl
+keeps_files (Err fault) held = refl
+
+-- ---- an end before the report
+early_answered : (asked : Asked) (held : Option Holding) (end : End) (report : Option (List ℕ)) → IsEarly end → IsAnswered asked held end None report report
+early_answered asked held Done report early = absurd early
+early_answered asked held (No rule place) report early = absurd early
+early_answered asked held WriteFault report early = absurd early
+early_answered asked held ReportFault report early = absurd early
+early_answered asked held Words report early = (refl, refl)
+early_answered asked held SameName report early = (refl, refl)
+early_answered asked held Seed report early = (refl, refl)
+early_answered asked held (Records fault) report early = (refl, refl)
+early_answered asked held (Checks fault) report early = (refl, refl)
+early_answered asked held (Wav fault) report early = (refl, refl)
+early_answered asked held ReadFault report early = (refl, refl)
+early_answered asked held Memory report early = (refl, refl)
+early_answered asked held (PlanText line) report early = (refl, refl)
+
+pub stopped : (asked : Asked) (files : Option Holding) (reads later writes : ℕ) (report : Option (List ℕ)) (reports : ℕ) (end : End) → IsEarly end
+    → Stops (IsEndBy asked files) (Reads asked (Rose reads later)) end → reads ≤ later
+    → IsRun asked (outside files reads writes report reports) (outside files later writes report reports) end None
+stopped asked files reads later writes report reports end early stops more = record {
+  done = λ is. absurd (subst (λ (e : End). IsEarly e) is early);
+  begun = if_render asked (λ q. IsBegun q files files) (λ q. unbegun q files);
+  others = keeps_files asked files;
+  untouched = inr (inr refl);
+  answered = early_answered asked files end report early;
+  cause = inl stops;
+  reads = more;
+  writes = omega arith;
+  unwritten = inr (inr refl);
+  reports = omega arith;
+}
+
+-- ---- reads before the rest of a run
+reads_since : (asked : Asked) (A B : Type 0) → (A → B) → Reads asked A → Reads asked B
+reads_since (Ok (render q)) A B f failed = f failed
+reads_since (Ok (compile q)) A B f failed = f failed
+reads_since (Ok (check q)) A B f failed = f failed
+reads_since (Ok (demo q)) A B f failed = failed
+reads_since (Err fault) A B f failed = failed
+
+cause_since : (asked : Asked) (held : Option Holding) (A B writes reports : Type 0) (end : End) → (A → B) → IsCaused asked held A writes reports end
+    → IsCaused asked held B writes reports end
+cause_since asked held A B writes reports end f (inl (inl is)) = inl (inl is)
+cause_since asked held A B writes reports end f (inl (inr (inl (is, failed)))) = inl (inr (inl (is, reads_since asked A B f failed)))
+cause_since asked held A B writes reports end f (inl (inr (inr memory))) = inl (inr (inr memory))
+cause_since asked held A B writes reports end f (inr more) = inr more
+
+pub since : (asked : Asked) (files : Option Holding) (reads later writes : ℕ) (report : Option (List ℕ)) (reports : ℕ) (new : Outside) (end : End) (kept : Option Plan)
+    → reads ≤ later → IsRun asked (outside files later writes report reports) new end kept → IsRun asked (outside files reads writes report reports) new end kept
+since asked files reads later writes report reports new end kept more run = record {
+  done = run.done;
+  begun = run.begun;
+  others = run.others;
+  untouched = run.untouched;
+  answered = run.answered;
+  cause = cause_since asked files (Rose later new.read_faults) (Rose reads new.read_faults) (Rose writes new.write_faults) (Rose reports new.report_faults) end (λ r. omega (arith, r)) run.cause;
+  reads = let rest = run.reads in omega (arith, rest);
+  writes = run.writes;
+  unwritten = run.unwritten;
+  reports = run.reports;
+}
+
+-- ---- the report
+module _ (asked : Asked) (files : Option Holding) (reads writes : ℕ) (old new : Option (List ℕ)) (before after : ℕ) (plan : Plan) (text : List ℕ)
+    (counted : before ≤ after) where
+  -- it failed
+  pub unreported : (end : End) → IsWork asked files plan text end → GainsPrefix text old new → Rose before after
+      → IsRun asked (outside files reads writes old before) (outside files reads writes new after) ReportFault (Some plan)
+  unreported end work gains rose = record {
+    done = λ is. absurd (cc);
+    begun = if_render asked (λ q. IsBegun q files files) (λ q. unbegun q files);
+    others = keeps_files asked files;
+    untouched = inr (inr refl);
+    answered = (plan, text, end, refl, work, gains);
+    cause = inr (inr (refl, rose, (plan, text, end, work)));
+    reads = omega arith;
+    writes = omega arith;
+    unwritten = inr (inr refl);
+    reports = counted;
+  }
+
+  -- it was the last step
+  last : (end : End) → IsQuiet asked → IsEndBy asked files end → IsAnswered asked files end (Some plan) old new
+      → IsRun asked (outside files reads writes old before) (outside files reads writes new after) end (Some plan)
+  last end quiet is answer = record {
+    done = λ e. if_quiet asked (λ q. IsWritten q files files) quiet;
+    begun = if_quiet asked (λ q. IsBegun q files files) quiet;
+    others = keeps_files asked files;
+    untouched = inr (inr refl);
+    answered = answer;
+    cause = inl (inl is);
+    reads = omega arith;
+    writes = omega arith;
+    unwritten = inr (inr refl);
+    reports = counted;
+  }
+
+  last_done : IsQuiet asked → IsEndBy asked files Done → IsWork asked files plan text Done → GainsAll text old new → (end : End) → end ≡ Done
+      → IsRun asked (outside files reads writes old before) (outside files reads writes new after) end (Some plan)
+  last_done quiet is work gains end done =
+      subst (λ (e : End). IsRun asked (outside files reads writes old before) (outside files reads writes new after) e (Some plan)) (sym done)
+      (last Done quiet is (plan, text, refl, work, gains))
+
+  last_no : IsQuiet asked → (rule : Rule) (place : ℕ) → IsEndBy asked files (No rule place) → IsWork asked files plan text (No rule place) → GainsAll text old new
+      → IsRun asked (outside files reads writes old before) (outside files reads writes new after) (No rule place) (Some plan)
+  last_no quiet rule place is work gains = last (No rule place) quiet is (plan, text, refl, work, gains)
+
+may_hold : (name : List ℕ) (mode : _) (held : Option Holding) (plan : Plan) → IsPlanUnder name mode held plan → MayHoldGraph name held
+may_hold name mode None plan under = tt
+may_hold name mode (Some files) plan (g, sound, found, best) = (g, found)
+
+-- it took the text, and nothing is written after it
+pub reported : (asked : Asked) (files : Option Holding) (reads writes : ℕ) (old new : Option (List ℕ)) (before after : ℕ) (plan : Plan) (text : List ℕ) (end : End)
+    → before ≤ after → IsQuiet asked → IsWork asked files plan text end → GainsAll text old new
+    → IsRun asked (outside files reads writes old before) (outside files reads writes new after) end (Some plan)
+reported (Ok (render q)) files reads writes old new before after plan text end counted quiet work gains = absurd quiet
+reported (Err fault) files reads writes old new before after plan text end counted quiet work gains = absurd work
+reported (Ok (compile q)) files reads writes old new before after plan text end counted quiet (under, is, done) gains =
+    last_done (Ok (compile q)) files reads writes old new before after plan text counted tt (inr (refl, may_hold q.graph _ files plan under)) (under, is, refl) gains end done
+reported (Ok (demo q)) files reads writes old new before after plan text end counted quiet (best, is, done) gains =
+    last_done (Ok (demo q)) files reads writes old new before after plan text counted tt refl (best, is, refl) gains end done
+reported (Ok (check q)) files reads writes old new before after plan text Done counted quiet (judged, is) gains =
+    last_done (Ok (check q)) files reads writes old new before after plan text counted tt (inr (inr (plan, judged))) (judged, is) gains Done refl
+reported (Ok (check q)) files reads writes old new before after plan text (No rule place) counted quiet (judged, is) gains =
+    last_no (Ok (check q)) files reads writes old new before after plan text counted tt rule place (inr (inr (plan, judged))) (judged, is) gains
+reported (Ok (check q)) files reads writes old new before after plan text Words counted quiet ((g, sound, found, there, says), is) gains = absurd says
+reported (Ok (check q)) files reads writes old new before after plan text SameName counted quiet ((g, sound, found, there, says), is) gains = absurd says
+reported (Ok (check q)) files reads writes old new before after plan text Seed counted quiet ((g, sound, found, there, says), is) gains = absurd says
+reported (Ok (check q)) files reads writes old new before after plan text (Records fault) counted quiet ((g, sound, found, there, says), is) gains = absurd says
+reported (Ok (check q)) files reads writes old new before after plan text (Checks fault) counted quiet ((g, sound, found, there, says), is) gains = absurd says
+reported (Ok (check q)) files reads writes old new before after plan text (Wav fault) counted quiet ((g, sound, found, there, says), is) gains = absurd says
+reported (Ok (check q)) files reads writes old new before after plan text ReadFault counted quiet ((g, sound, found, there, says), is) gains = absurd says
+reported (Ok (check q)) files reads writes old new before after plan text WriteFault counted quiet ((g, sound, found, there, says), is) gains = absurd says
+reported (Ok (check q)) files reads writes old new before after plan text ReportFault counted quiet ((g, sound, found, there, says), is) gains = absurd says
+reported (Ok (check q)) files reads writes old new before after plan text Memory counted quiet ((g, sound, found, there, says), is) gains = absurd says
+reported (Ok (check q)) files reads writes old new before after plan text (PlanText line) counted quiet ((g, sound, found, there, says), is) gains = absurd says
+
+-- ---- the output
+module _ (q : RenderRequest) (files held : Option Holding) (reads writes since_writes : ℕ) (old new : Option (List ℕ)) (before after : ℕ) (plan : Plan) (text : List ℕ)
+    (work : IsWork (Ok (render q)) files plan text Done) (gains : GainsAll text old new) (counted : before ≤ after) (written : writes ≤ since_writes)
+    (part : IsBegun q files held) (others : KeepsOthers q.output files held) where
+  pub rendered_all : IsWritten q files held → q.input ≢ q.output
+      → IsRun (Ok (render q)) (outside files reads writes old before) (outside held reads since_writes new after) Done (Some plan)
+  rendered_all whole differs = record {
+    done = λ is. whole;
+    begun = part;
+    others = others;
+    untouched = inl refl;
+    answered = (plan, text, refl, work, gains);
+    cause = inl (inl (inr (differs, inr (refl, work.3))));
+    reads = omega arith;
+    writes = written;
+    unwritten = inl refl;
+    reports = counted;
+  }
+
+  pub rendered_part : Rose writes since_writes
+      → IsRun (Ok (render q)) (outside files reads writes old before) (outside held reads since_writes new after) WriteFault (Some plan)
+  rendered_part rose = record {
+    done = λ is. absurd (cc);
+    begun = part;
+    others = others;
+    untouched = inr (inl refl);
+    answered = (plan, text, refl, work, gains);
+    cause = inr (inl (refl, rose, work.3));
+    reads = omega arith;
+    writes = written;
+    unwritten = inr (inl refl);
+    reports = counted;
+  }

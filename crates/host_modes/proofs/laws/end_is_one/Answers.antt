@@ -1,0 +1,5 @@
+use Rattle.host_modes.proofs.EndOnce.{end_is_one}
+use Rattle.host_modes.proofs.laws.end_is_one.Goals as goal
+
+pub returns : goal.returns
+returns c = end_is_one
