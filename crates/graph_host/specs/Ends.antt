@@ -1,5 +1,5 @@
--- The status of each end, and when an end comes.
-use Rattle.std.specs.Prelude.{◌≡◌, ◌⊎◌, ℕ}
+-- The status of each end.
+use Rattle.std.specs.Prelude.{ℕ}
 use Rattle.host_modes.specs.declared.ends.End.{End}
 use Rattle.host_modes.specs.declared.ends.End.TheVariants.{Done, No, Words, SameName, Seed, Records, Graph, Wav, ReadFault, WriteFault, ReportFault, Memory, PlanText}
 
@@ -17,7 +17,3 @@ status_of WriteFault = 6
 status_of ReportFault = 7
 status_of Memory = 8
 status_of (PlanText line) = 9
-
--- it ends so just where this holds, but for want of memory
-abbrev pub EndsJust : End → End → Type 0 → Type 0
-EndsJust end which cause = (end ≡ which → cause) × (cause → (end ≡ which) ⊎ (end ≡ Memory))

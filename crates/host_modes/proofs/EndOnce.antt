@@ -291,7 +291,7 @@ VerdictCase g plan end = ((end ≡ Done) × IsCertified g plan) ⊎ ((rule : Rul
 
 pub verdict_case : (g : Graph) (plan : Plan) (end : End) → IsVerdict g plan end → VerdictCase g plan end
 verdict_case g plan Done (certified, optimal) = inl (refl, certified)
-verdict_case g plan (No rule place) no = inr (rule, place, refl, no)
+verdict_case g plan (No rule place) fails = inr (rule, place, refl, fails)
 verdict_case g plan ReadFault r = absurd r
 verdict_case g plan (PlanText line) r = absurd r
 verdict_case g plan Words r = absurd r
@@ -306,7 +306,7 @@ verdict_case g plan Memory r = absurd r
 
 -- what is certified is not refused
 pub not_refused : (g : Graph) (plan : Plan) (rule : Rule) (place : ℕ) → IsCertified g plan → IsNo g plan rule place → ⊥
-not_refused g plan rule place certified no = no.first.fails (certified rule)
+not_refused g plan rule place certified refusal = refusal.first.fails (certified rule)
 
 no_same : {r s : Rule} {i j : ℕ} → (r ≡ s) × (i ≡ j) → No r i ≡ No s j
 no_same (rules, places) = rw (rules, places) refl
@@ -316,9 +316,9 @@ verdicts g plan a b r s = by_case (verdict_case g plan a r) (verdict_case g plan
   where
     by_case : VerdictCase g plan a → VerdictCase g plan b → a ≡ b
     by_case (inl (is, certified)) (inl (be, other)) = is ∙ sym be
-    by_case (inl (is, certified)) (inr (rule, place, be, no)) = absurd (not_refused g plan rule place certified no)
-    by_case (inr (rule, place, is, no)) (inl (be, certified)) = absurd (not_refused g plan rule place certified no)
-    by_case (inr (rule, place, is, no)) (inr (other, there, be, not)) = is ∙ no_same (no_is_one g plan rule other place there no not) ∙ sym be
+    by_case (inl (is, certified)) (inr (rule, place, be, refusal)) = absurd (not_refused g plan rule place certified refusal)
+    by_case (inr (rule, place, is, refusal)) (inl (be, certified)) = absurd (not_refused g plan rule place certified refusal)
+    by_case (inr (rule, place, is, refusal)) (inr (other, there, be, again)) = is ∙ no_same (no_is_one g plan rule other place there refusal again) ∙ sym be
 
 judged_once : (q : CheckRequest) (plan other : Plan) (files : Holding) (a b : End) → IsJudged q (Some files) plan a → IsJudged q (Some files) other b → a ≡ b
 judged_once q plan other files a b (g, sound, holds, found, says) (h, fine, keeps, there, tells) =
@@ -362,7 +362,7 @@ one_told (Err OutOfRange) None a b r s = ap plain (r ∙ sym s)
 one_told (Err OutOfRange) (Some files) a b r s = ap plain (r ∙ sym s)
 
 read_failed : (asked : Asked) (reads : Type 0) → Reads asked reads → reads
-read_failed (Ok (render q)) reads failed = failed
+read_failed (Ok (render q)) reads (differs, failed) = failed
 read_failed (Ok (compile q)) reads failed = failed
 read_failed (Ok (check q)) reads failed = failed
 read_failed (Ok (demo q)) reads failed = absurd failed

@@ -4,3 +4,4 @@ mod OutputLaws
 mod EndLaws
 mod EndOnce
 mod RunLaws
+mod DemoLaws

@@ -3,7 +3,13 @@ use Rattle.std.proofs.Common.{◌≡◌, ℕ, zero, suc, ℤ, pos, ◌+◌, ◌*
 use Rattle.std.proofs.Math.Nat.{mul-mod_left, mul-le-mul_left, mul-le-mul_right, mul_assoc}
 use Rattle.graph_model.specs.Histories.{History, frames_of, interleaved, shifted, silence, history_of}
 use Rattle.graph_model.specs.Graphs.{output_name}
-use Rattle.graph_model.specs.Paths.{reach}
+use Rattle.graph_model.specs.Paths.{latency_of_graph, reach}
+use Rattle.graph_model.specs.Sound.{IsSound}
+use Rattle.plan_model.specs.Alignments.{position_in}
+use Rattle.plan_model.specs.Certified.{IsCertified}
+use Rattle.plan_model.specs.declared.plan.Plan.{Plan}
+use Rattle.plan_model.specs.declared.rule.Rule.TheVariants.{Latency}
+use Rattle.plan_model.proofs.ShiftLaws.{latency_is_reach}
 use Rattle.graph_model.specs.Answers.{answer, outgoing, sum_into}
 use Rattle.graph_model.specs.declared.graph.Graph.{Graph}
 use Rattle.graph_model.proofs.HistoryLaws.{length-history_of}
@@ -128,3 +134,7 @@ bytes_are q g head form of =
     ∙ ap (λ k. (head.frames + silent_frames q g - k) * (form.channels * (form.bits / 8))) of.skipped
     ∙ ap (λ n. (head.frames + silent_frames q g - left_out q g) * (n * (form.bits / 8))) of.channels
     ∙ ap (λ n. (head.frames + silent_frames q g - left_out q g) * (out_channels g * (n / 8))) of.bits
+
+-- a certified plan puts the output node at the graph's latency
+pub planned_latency : (g : Graph) (plan : Plan) → IsSound g → IsCertified g plan → position_in plan.at (output_name g) ≡ latency_of_graph g
+planned_latency g plan sound certified = certified Latency ∙ latency_is_reach g plan sound certified

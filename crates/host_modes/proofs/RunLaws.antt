@@ -1,18 +1,18 @@
 -- What a run leaves, end by end.
 use Rattle.std.proofs.Common.{◌≡◌, ℕ, List, Option, Some, None, refl, sym, subst, inl, inr, ◌≤◌, arith}
-use Rattle.std.specs.Prelude.{◌⊎◌, Ok, Err}
+use Rattle.std.specs.Prelude.{◌≢◌, ◌⊎◌, Ok, Err, ⊤}
 use Rattle.plan_model.specs.declared.plan.Plan.{Plan}
 use Rattle.plan_model.specs.declared.rule.Rule.{Rule}
 use Rattle.gh_outside.specs.Causes.{Rose}
 use Rattle.gh_outside.specs.Holdings.{Holding, KeepsOthers, GainsAll, GainsPrefix}
 use Rattle.command_words.specs.Rendering.{RenderRequest}
 use Rattle.command_words.specs.Requests.{render, compile, check, demo}
-use Rattle.host_modes.specs.Asked.{Asked, IfRender}
-use Rattle.host_modes.specs.Causes.{IsCaused, IsEndBy, Reads, Stops}
-use Rattle.host_modes.specs.Ends.{IsEarly}
+use Rattle.host_modes.specs.Asked.{Asked, IfRender, IsRender}
+use Rattle.host_modes.specs.Causes.{IsByWords, IsCaused, IsEndBy, IsReadEnd, Reads, Stops}
+use Rattle.host_modes.specs.Ends.{IsEarly, IsOfFiles}
 use Rattle.host_modes.specs.Outside.{outside, Outside}
 use Rattle.host_modes.specs.Plans.{IsJudged, IsPlanUnder, IsVerdict}
-use Rattle.host_modes.specs.Readings.{IsBegun, IsWritten, MayBeReady, MayHoldGraph}
+use Rattle.host_modes.specs.Readings.{IsBegun, IsWritten, MayHoldGraph}
 use Rattle.host_modes.specs.Runs.{IsQuiet, IsRun, KeepsFiles}
 use Rattle.host_modes.specs.Works.{IsAnswered, IsWork}
 use Rattle.host_modes.proofs.EndOnce.{verdict_case}
@@ -49,6 +49,61 @@ keeps_files (Ok (check q)) held = refl
 keeps_files (Ok (demo q)) held = refl
 keeps_files (Err fault) held = refl
 
+-- ---- the words
+-- it is a request
+abbrev IsGood : Asked → Type 0
+IsGood (Ok r) = ⊤
+IsGood (Err fault) = ⊥
+
+-- of a request there is no other end by its words than that of two names that are one
+module _ (q : RenderRequest) where
+  pub render_words : (end : End) → (end ≡ Words → ⊥) → (end ≡ Seed → ⊥) → (end ≡ SameName → ⊥) → q.input ≢ q.output → IsByWords (Ok (render q)) end
+  render_words end not_words not_seed not_same differs = record {
+    words = (λ e. absurd (not_words e), λ e. absurd (cc));
+    seed = (λ e. absurd (not_seed e), λ e. absurd (cc));
+    same_name = (λ e. absurd (not_same e), λ same. absurd (differs same));
+  }
+
+  pub render_same : q.input ≡ q.output → IsByWords (Ok (render q)) SameName
+  render_same same = record {
+    words = (λ e. absurd (cc), λ e. absurd (cc));
+    seed = (λ e. absurd (cc), λ e. absurd (cc));
+    same_name = (λ e. same, λ e. inl refl);
+  }
+
+quiet_words : (asked : Asked) (end : End) → IsQuiet asked → (end ≡ Words → ⊥) → (end ≡ Seed → ⊥) → (end ≡ SameName → ⊥) → IsGood asked → IsByWords asked end
+quiet_words (Ok (render q)) end quiet not_words not_seed not_same good = absurd quiet
+quiet_words (Ok (compile q)) end quiet not_words not_seed not_same good =
+    record { words = (λ e. absurd (not_words e), λ e. absurd (cc)); seed = (λ e. absurd (not_seed e), λ e. absurd (cc)); same_name = (λ e. absurd (not_same e), λ e. absurd e) }
+quiet_words (Ok (check q)) end quiet not_words not_seed not_same good =
+    record { words = (λ e. absurd (not_words e), λ e. absurd (cc)); seed = (λ e. absurd (not_seed e), λ e. absurd (cc)); same_name = (λ e. absurd (not_same e), λ e. absurd e) }
+quiet_words (Ok (demo q)) end quiet not_words not_seed not_same good =
+    record { words = (λ e. absurd (not_words e), λ e. absurd (cc)); seed = (λ e. absurd (not_seed e), λ e. absurd (cc)); same_name = (λ e. absurd (not_same e), λ e. absurd e) }
+quiet_words (Err fault) end quiet not_words not_seed not_same good = absurd good
+
+-- an end that files cause is none of them
+pub of_files : (end : End) → IsOfFiles end → (end ≡ Words → ⊥) × (end ≡ Seed → ⊥) × (end ≡ SameName → ⊥)
+of_files end is = (
+  λ e. subst (λ (x : End). IsOfFiles x) e is,
+  λ e. subst (λ (x : End). IsOfFiles x) e is,
+  λ e. subst (λ (x : End). IsOfFiles x) e is,
+)
+
+pub early_of_files : (end : End) → IsOfFiles end → IsEarly end
+early_of_files (Records fault) is = tt
+early_of_files (Checks fault) is = tt
+early_of_files (Wav fault) is = tt
+early_of_files ReadFault is = tt
+early_of_files (PlanText line) is = tt
+early_of_files Memory is = tt
+early_of_files Words is = tt
+early_of_files Seed is = tt
+early_of_files SameName is = tt
+early_of_files Done is = is
+early_of_files (No rule place) is = is
+early_of_files WriteFault is = is
+early_of_files ReportFault is = is
+
 -- ---- an end before the report
 early_answered : (asked : Asked) (held : Option Holding) (end : End) (report : Option (List ℕ)) → IsEarly end → IsAnswered asked held end None report report
 early_answered asked held Done report early = absurd early
@@ -66,9 +121,10 @@ early_answered asked held Memory report early = (refl, refl)
 early_answered asked held (PlanText line) report early = (refl, refl)
 
 pub stopped : (asked : Asked) (files : Option Holding) (reads later writes : ℕ) (report : Option (List ℕ)) (reports : ℕ) (end : End) → IsEarly end
-    → Stops (IsEndBy asked files) (Reads asked (Rose reads later)) end → reads ≤ later
+    → IsByWords asked end → Stops (IsEndBy asked files) (Reads asked (Rose reads later)) end → reads ≤ later
     → IsRun asked (outside files reads writes report reports) (outside files later writes report reports) end None
-stopped asked files reads later writes report reports end early stops more = record {
+stopped asked files reads later writes report reports end early words stops more = record {
+  by_words = words;
   done = λ is. absurd (subst (λ (e : End). IsEarly e) is early);
   begun = if_render asked (λ q. IsBegun q files files) (λ q. unbegun q files);
   others = keeps_files asked files;
@@ -83,7 +139,7 @@ stopped asked files reads later writes report reports end early stops more = rec
 
 -- ---- reads before the rest of a run
 reads_since : (asked : Asked) (A B : Type 0) → (A → B) → Reads asked A → Reads asked B
-reads_since (Ok (render q)) A B f failed = f failed
+reads_since (Ok (render q)) A B f (differs, failed) = (differs, f failed)
 reads_since (Ok (compile q)) A B f failed = f failed
 reads_since (Ok (check q)) A B f failed = f failed
 reads_since (Ok (demo q)) A B f failed = failed
@@ -104,6 +160,7 @@ since asked files reads later writes report reports new end kept more run = reco
   others = run.others;
   untouched = run.untouched;
   answered = run.answered;
+  by_words = run.by_words;
   cause = cause_since asked files (Rose later new.read_faults) (Rose reads new.read_faults) (Rose writes new.write_faults) (Rose reports new.report_faults) end (λ r. omega (arith, r)) run.cause;
   reads = let rest = run.reads in omega (arith, rest);
   writes = run.writes;
@@ -111,13 +168,30 @@ since asked files reads later writes report reports new end kept more run = reco
   reports = run.reports;
 }
 
+-- the reading before a work that writes nothing, and before one that does
+pub quiet_rest : (asked : Asked) (files held : Option Holding) (reads later writes same : ℕ) (report new : Option (List ℕ)) (reports after : ℕ) (end : End) (kept : Option Plan)
+    → held ≡ files → same ≡ writes → reads ≤ later → IsRun asked (outside files later writes report reports) (outside files later writes new after) end kept
+    → IsRun asked (outside files reads writes report reports) (outside held later same new after) end kept
+quiet_rest asked files held reads later writes same report new reports after end kept keeps writes_are more run =
+    subst (λ w. IsRun asked (outside files reads writes report reports) (outside held later w new after) end kept) (sym writes_are)
+    (subst (λ h. IsRun asked (outside files reads writes report reports) (outside h later writes new after) end kept) (sym keeps)
+    (since asked files reads later writes report reports (outside files later writes new after) end kept more run))
+
+pub render_rest : (asked : Asked) (files held : Option Holding) (reads later writes same : ℕ) (report : Option (List ℕ)) (reports : ℕ) (new : Outside) (end : End) (kept : Option Plan)
+    → held ≡ files → same ≡ writes → reads ≤ later → IsRun asked (outside held later same report reports) new end kept → IsRun asked (outside files reads writes report reports) new end kept
+render_rest asked files held reads later writes same report reports new end kept keeps writes_are more run =
+    since asked files reads later writes report reports new end kept more
+    (subst (λ w. IsRun asked (outside files later w report reports) new end kept) writes_are
+    (subst (λ h. IsRun asked (outside h later same report reports) new end kept) keeps run))
+
 -- ---- the report
 module _ (asked : Asked) (files : Option Holding) (reads writes : ℕ) (old new : Option (List ℕ)) (before after : ℕ) (plan : Plan) (text : List ℕ)
     (counted : before ≤ after) where
   -- it failed
-  pub unreported : (end : End) → IsWork asked files plan text end → GainsPrefix text old new → Rose before after
+  pub unreported : (end : End) → IsByWords asked ReportFault → IsWork asked files plan text end → GainsPrefix text old new → Rose before after
       → IsRun asked (outside files reads writes old before) (outside files reads writes new after) ReportFault (Some plan)
-  unreported end work gains rose = record {
+  unreported end words work gains rose = record {
+    by_words = words;
     done = λ is. absurd (cc);
     begun = if_render asked (λ q. IsBegun q files files) (λ q. unbegun q files);
     others = keeps_files asked files;
@@ -131,9 +205,10 @@ module _ (asked : Asked) (files : Option Holding) (reads writes : ℕ) (old new 
   }
 
   -- it was the last step
-  last : (end : End) → IsQuiet asked → IsEndBy asked files end → IsAnswered asked files end (Some plan) old new
+  last : (end : End) → IsQuiet asked → IsByWords asked end → IsEndBy asked files end → IsAnswered asked files end (Some plan) old new
       → IsRun asked (outside files reads writes old before) (outside files reads writes new after) end (Some plan)
-  last end quiet is answer = record {
+  last end quiet words is answer = record {
+    by_words = words;
     done = λ e. if_quiet asked (λ q. IsWritten q files files) quiet;
     begun = if_quiet asked (λ q. IsBegun q files files) quiet;
     others = keeps_files asked files;
@@ -146,15 +221,16 @@ module _ (asked : Asked) (files : Option Holding) (reads writes : ℕ) (old new 
     reports = counted;
   }
 
-  last_done : IsQuiet asked → IsEndBy asked files Done → IsWork asked files plan text Done → GainsAll text old new → (end : End) → end ≡ Done
+  last_done : IsQuiet asked → IsGood asked → IsEndBy asked files Done → IsWork asked files plan text Done → GainsAll text old new → (end : End) → end ≡ Done
       → IsRun asked (outside files reads writes old before) (outside files reads writes new after) end (Some plan)
-  last_done quiet is work gains end done =
+  last_done quiet good is work gains end done =
       subst (λ (e : End). IsRun asked (outside files reads writes old before) (outside files reads writes new after) e (Some plan)) (sym done)
-      (last Done quiet is (plan, text, refl, work, gains))
+      (last Done quiet (quiet_words asked Done quiet (λ e. absurd (cc)) (λ e. absurd (cc)) (λ e. absurd (cc)) good) is (plan, text, refl, work, gains))
 
-  last_no : IsQuiet asked → (rule : Rule) (place : ℕ) → IsEndBy asked files (No rule place) → IsWork asked files plan text (No rule place) → GainsAll text old new
+  last_no : IsQuiet asked → IsGood asked → (rule : Rule) (place : ℕ) → IsEndBy asked files (No rule place) → IsWork asked files plan text (No rule place) → GainsAll text old new
       → IsRun asked (outside files reads writes old before) (outside files reads writes new after) (No rule place) (Some plan)
-  last_no quiet rule place is work gains = last (No rule place) quiet is (plan, text, refl, work, gains)
+  last_no quiet good rule place is work gains =
+      last (No rule place) quiet (quiet_words asked (No rule place) quiet (λ e. absurd (cc)) (λ e. absurd (cc)) (λ e. absurd (cc)) good) is (plan, text, refl, work, gains)
 
 may_hold : (name : List ℕ) (mode : _) (held : Option Holding) (plan : Plan) → IsPlanUnder name mode held plan → MayHoldGraph name held
 may_hold name mode None plan under = tt
@@ -167,13 +243,13 @@ pub reported : (asked : Asked) (files : Option Holding) (reads writes : ℕ) (ol
 reported (Ok (render q)) files reads writes old new before after plan text end counted quiet work gains = absurd quiet
 reported (Err fault) files reads writes old new before after plan text end counted quiet work gains = absurd work
 reported (Ok (compile q)) files reads writes old new before after plan text end counted quiet (under, is, done) gains =
-    last_done (Ok (compile q)) files reads writes old new before after plan text counted tt (inr (refl, may_hold q.graph _ files plan under)) (under, is, refl) gains end done
+    last_done (Ok (compile q)) files reads writes old new before after plan text counted tt tt (inr (refl, may_hold q.graph _ files plan under)) (under, is, refl) gains end done
 reported (Ok (demo q)) files reads writes old new before after plan text end counted quiet (best, is, done) gains =
-    last_done (Ok (demo q)) files reads writes old new before after plan text counted tt refl (best, is, refl) gains end done
+    last_done (Ok (demo q)) files reads writes old new before after plan text counted tt tt refl (best, is, refl) gains end done
 reported (Ok (check q)) files reads writes old new before after plan text Done counted quiet (judged, is) gains =
-    last_done (Ok (check q)) files reads writes old new before after plan text counted tt (inr (inr (plan, judged))) (judged, is) gains Done refl
+    last_done (Ok (check q)) files reads writes old new before after plan text counted tt tt (inr (inr (plan, judged))) (judged, is) gains Done refl
 reported (Ok (check q)) files reads writes old new before after plan text (No rule place) counted quiet (judged, is) gains =
-    last_no (Ok (check q)) files reads writes old new before after plan text counted tt rule place (inr (inr (plan, judged))) (judged, is) gains
+    last_no (Ok (check q)) files reads writes old new before after plan text counted tt tt rule place (inr (inr (plan, judged))) (judged, is) gains
 reported (Ok (check q)) files reads writes old new before after plan text Words counted quiet ((g, sound, found, there, says), is) gains = absurd says
 reported (Ok (check q)) files reads writes old new before after plan text SameName counted quiet ((g, sound, found, there, says), is) gains = absurd says
 reported (Ok (check q)) files reads writes old new before after plan text Seed counted quiet ((g, sound, found, there, says), is) gains = absurd says
@@ -187,35 +263,75 @@ reported (Ok (check q)) files reads writes old new before after plan text Memory
 reported (Ok (check q)) files reads writes old new before after plan text (PlanText line) counted quiet ((g, sound, found, there, says), is) gains = absurd says
 
 -- ---- the output
-module _ (q : RenderRequest) (files held : Option Holding) (reads writes since_writes : ℕ) (old new : Option (List ℕ)) (before after : ℕ) (plan : Plan) (text : List ℕ)
-    (work : IsWork (Ok (render q)) files plan text Done) (gains : GainsAll text old new) (counted : before ≤ after) (written : writes ≤ since_writes)
+module _ (q : RenderRequest) (files held : Option Holding) (reads later writes since_writes : ℕ) (old new : Option (List ℕ)) (before after : ℕ) (plan : Plan) (text : List ℕ)
+    (work : IsWork (Ok (render q)) files plan text Done) (gains : GainsAll text old new) (counted : before ≤ after) (same : later ≡ reads) (written : writes ≤ since_writes)
     (part : IsBegun q files held) (others : KeepsOthers q.output files held) where
-  pub rendered_all : IsWritten q files held → q.input ≢ q.output
-      → IsRun (Ok (render q)) (outside files reads writes old before) (outside held reads since_writes new after) Done (Some plan)
-  rendered_all whole differs = record {
+  pub rendered_all : IsWritten q files held
+      → IsRun (Ok (render q)) (outside files reads writes old before) (outside held later since_writes new after) Done (Some plan)
+  rendered_all whole = record {
+    by_words = render_words q Done (λ e. absurd (cc)) (λ e. absurd (cc)) (λ e. absurd (cc)) work.3.0;
     done = λ is. whole;
     begun = part;
     others = others;
     untouched = inl refl;
     answered = (plan, text, refl, work, gains);
-    cause = inl (inl (inr (differs, inr (refl, work.3))));
-    reads = omega arith;
+    cause = inl (inl (inr (work.3.0, inr (refl, work.3.1))));
+    reads = omega (arith, same);
     writes = written;
     unwritten = inl refl;
     reports = counted;
   }
 
   pub rendered_part : Rose writes since_writes
-      → IsRun (Ok (render q)) (outside files reads writes old before) (outside held reads since_writes new after) WriteFault (Some plan)
+      → IsRun (Ok (render q)) (outside files reads writes old before) (outside held later since_writes new after) WriteFault (Some plan)
   rendered_part rose = record {
+    by_words = render_words q WriteFault (λ e. absurd (cc)) (λ e. absurd (cc)) (λ e. absurd (cc)) work.3.0;
     done = λ is. absurd (cc);
     begun = part;
     others = others;
     untouched = inr (inl refl);
     answered = (plan, text, refl, work, gains);
     cause = inr (inl (refl, rose, work.3));
-    reads = omega arith;
+    reads = omega (arith, same);
     writes = written;
     unwritten = inr (inl refl);
     reports = counted;
   }
+
+-- ---- a mode that stopped before its report
+pub quiet_stopped : (asked : Asked) (files : Option Holding) (reads later writes : ℕ) (report : Option (List ℕ)) (reports : ℕ) (end : End) → IsQuiet asked → IsGood asked
+    → IsOfFiles end → Stops (IsEndBy asked files) (Reads asked (Rose reads later)) end → reads ≤ later
+    → IsRun asked (outside files reads writes report reports) (outside files later writes report reports) end None
+quiet_stopped asked files reads later writes report reports end quiet good is stops more =
+    let others = of_files end is in
+    stopped asked files reads later writes report reports end (early_of_files end is) (quiet_words asked end quiet others.0 others.1 others.2 good) stops more
+
+good : (asked : Asked) (files : Option Holding) (plan : Plan) (text : List ℕ) (end : End) → IsWork asked files plan text end → IsGood asked
+good (Ok r) files plan text end work = tt
+good (Err fault) files plan text end work = absurd work
+
+pub quiet_unreported : (asked : Asked) (files : Option Holding) (reads writes : ℕ) (old new : Option (List ℕ)) (before after : ℕ) (plan : Plan) (text : List ℕ) (end : End)
+    → before ≤ after → IsQuiet asked → IsWork asked files plan text end → GainsPrefix text old new → Rose before after
+    → IsRun asked (outside files reads writes old before) (outside files reads writes new after) ReportFault (Some plan)
+quiet_unreported asked files reads writes old new before after plan text end counted quiet work gains rose =
+    unreported asked files reads writes old new before after plan text counted end
+    (quiet_words asked ReportFault quiet (λ e. absurd (cc)) (λ e. absurd (cc)) (λ e. absurd (cc)) (good asked files plan text end work)) work gains rose
+
+-- ---- rendering that stopped
+pub render_stopped : (q : RenderRequest) (files : Option Holding) (reads later writes : ℕ) (report : Option (List ℕ)) (reports : ℕ) (end : End) → q.input ≢ q.output
+    → IsOfFiles end → Stops (IsReadEnd q files) (Rose reads later) end → reads ≤ later
+    → IsRun (Ok (render q)) (outside files reads writes report reports) (outside files later writes report reports) end None
+render_stopped q files reads later writes report reports end differs is stops more =
+    let others = of_files end is in
+    stopped (Ok (render q)) files reads later writes report reports end (early_of_files end is) (render_words q end others.0 others.1 others.2 differs)
+    (widened stops) more
+  where
+    widened : Stops (IsReadEnd q files) (Rose reads later) end → Stops (IsEndBy (Ok (render q)) files) (Reads (Ok (render q)) (Rose reads later)) end
+    widened (inl cause) = inl (inr (differs, inl cause))
+    widened (inr (inl (e, failed))) = inr (inl (e, (differs, failed)))
+    widened (inr (inr memory)) = inr (inr memory)
+
+pub same_stopped : (q : RenderRequest) (files : Option Holding) (reads writes : ℕ) (report : Option (List ℕ)) (reports : ℕ) → q.input ≡ q.output
+    → IsRun (Ok (render q)) (outside files reads writes report reports) (outside files reads writes report reports) SameName None
+same_stopped q files reads writes report reports same =
+    stopped (Ok (render q)) files reads reads writes report reports SameName tt (render_same q same) (inl (inl (same, refl))) (omega arith)

@@ -21,7 +21,7 @@ use Rattle.command_words.specs.declared.fault.WordsFault.TheVariants.{NoRequest,
 use Rattle.host_modes.specs.Asked.{Asked, IsRender}
 use Rattle.host_modes.specs.Outputs.{data_bytes}
 use Rattle.host_modes.specs.Plans.{IsJudged}
-use Rattle.host_modes.specs.Readings.{FindsGraph, HoldsRecords, HoldsGraph, MayBeReady, MayHoldGraph}
+use Rattle.host_modes.specs.Readings.{FindsGraph, HoldsRecords, HoldsGraph, MayBeReady, MayHoldGraph, MayRender}
 use Rattle.host_modes.specs.Works.{HasWork}
 use Rattle.host_modes.specs.declared.ends.End.{End}
 use Rattle.host_modes.specs.declared.ends.End.TheVariants.{Done, Words, SameName, Seed, Records, Graph as Checks, Wav, ReadFault, WriteFault, ReportFault, Memory, PlanText}
@@ -112,7 +112,7 @@ Stops Cause read_failed end = Cause end ⊎ ((end ≡ ReadFault) × read_failed)
 
 -- no read can end what reads no file
 abbrev pub Reads : Asked → Type 0 → Type 0
-Reads (Ok (render q)) failed = failed
+Reads (Ok (render q)) failed = (q.input ≢ q.output) × failed
 Reads (Ok (compile q)) failed = failed
 Reads (Ok (check q)) failed = failed
 Reads (Ok (demo q)) failed = ⊥
@@ -122,10 +122,20 @@ Reads (Err fault) failed = ⊥
 abbrev pub IsCaused : Asked → Option Holding → Type 0 → Type 0 → Type 0 → End → Type 0
 IsCaused asked held read_failed write_failed report_failed end =
     Stops (IsEndBy asked held) (Reads asked read_failed) end
-    ⊎ (((end ≡ WriteFault) × write_failed × IsRender asked (λ q. MayBeReady q held))
+    ⊎ (((end ≡ WriteFault) × write_failed × IsRender asked (λ q. MayRender q held))
     ⊎ ((end ≡ ReportFault) × report_failed × HasWork asked held))
 
 -- an end, but for which closed walk was found
 abbrev pub plain : End → End
 plain (Checks fault) = Checks (without_walk fault)
 plain end = end
+
+-- it ends so just where this holds, but for want of memory
+abbrev pub EndsJust : End → End → Type 0 → Type 0
+EndsJust end which cause = (end ≡ which → cause) × (cause → (end ≡ which) ⊎ (end ≡ Memory))
+
+-- these three ends come just where the words say so
+pub record IsByWords (asked : Asked) (end : End) : Type 0 where
+  pub words : EndsJust end Words (asked ≡ Err NoRequest)
+  pub seed : EndsJust end Seed (asked ≡ Err OutOfRange)
+  pub same_name : EndsJust end SameName (IsRender asked (λ q. q.input ≡ q.output))

@@ -13,16 +13,23 @@ use Rattle.host_modes.specs.Outputs.{answered}
 abbrev pub demo_graph : DemoRequest → Graph
 demo_graph q = generated q.seed q.nodes
 
--- the graph's answer to 4800 frames of two channels, and then to silence as long as its latency, in samples of 16 bits
-abbrev pub demo_bytes : DemoRequest → List ℕ
-demo_bytes q = let g = demo_graph q in bytes_of 16 (answered g (latency_of_graph g) (samples_drawn q.seed (4800 * 2)))
+-- how many frames of samples come in
+unfoldable pub demo_frames : ℕ
+demo_frames = 4800
+
+-- the graph's answer to so many frames of two channels, and then to silence as long as its latency, in samples of 16 bits
+unfoldable pub demo_bytes : DemoRequest → List ℕ
+demo_bytes q = let g = demo_graph q in bytes_of 16 (answered g (latency_of_graph g) (samples_drawn q.seed (demo_frames * 2)))
 
 -- a word, a space, a number, and byte 10
-abbrev pub row : List ℕ → ℕ → List ℕ
+unfoldable pub row : List ℕ → ℕ → List ℕ
 row word n = word ++ (32 ∷ (decimal n ++ 10 ∷ []))
 
--- the six lines of a demonstration: sizes of the graph, what its plan says, and how many frames were rendered, with the
--- sum of their bytes
+-- how many frames were rendered, and the sum of their bytes
+unfoldable pub sum_row : ℕ → ℕ → List ℕ
+sum_row frames bytes = codes "frames " ++ (decimal frames ++ (codes " sum " ++ (decimal bytes ++ 10 ∷ [])))
+
+-- the six lines of a demonstration: sizes of the graph, what its plan says, and what was rendered
 abbrev pub demo_lines : Graph → Plan → ℕ → List ℕ
 demo_lines g plan bytes =
     row (codes "nodes") (length g.nodes)
@@ -30,7 +37,7 @@ demo_lines g plan bytes =
     ++ row (codes "latency") plan.latency
     ++ row (codes "total") plan.total
     ++ row (codes "channels") plan.channels
-    ++ (codes "frames " ++ (decimal (4800 + plan.latency) ++ (codes " sum " ++ (decimal bytes ++ 10 ∷ []))))
+    ++ sum_row (demo_frames + plan.latency) bytes
 
 abbrev pub demo_text : DemoRequest → Plan → List ℕ
 demo_text q plan = demo_lines (demo_graph q) plan (sum (demo_bytes q))

@@ -1,5 +1,5 @@
 -- What a request reads, and what it leaves.
-use Rattle.std.specs.Prelude.{◌≡◌, ℕ, ℤ, ◌≤◌, List, take, Option, Some, None, Ok, ◌⊎◌, ⊤}
+use Rattle.std.specs.Prelude.{◌≡◌, ◌≢◌, ℕ, ℤ, ◌≤◌, List, take, Option, Some, None, Ok, ◌⊎◌, ⊤}
 use Rattle.graph_model.specs.Sound.{IsSound}
 use Rattle.graph_model.specs.declared.graph.Graph.{Graph}
 use Rattle.graph_records.specs.Walk.{walk}
@@ -65,6 +65,10 @@ IsReady q files = (g : Graph) × (head : Head) × (samples : List ℤ) × IsJob 
 abbrev pub MayBeReady : RenderRequest → Option Holding → Type 0
 MayBeReady q None = ⊤
 MayBeReady q (Some files) = IsReady q files
+
+-- and its input and output are two files
+abbrev pub MayRender : RenderRequest → Option Holding → Type 0
+MayRender q held = (q.input ≢ q.output) × MayBeReady q held
 
 -- these are the bytes of the file that the request asks for
 abbrev pub IsOutput : RenderRequest → Option Holding → List ℕ → Type 0

@@ -5,7 +5,7 @@ use Rattle.gh_outside.specs.Holdings.{Holding, KeepsOthers}
 use Rattle.plan_model.specs.declared.plan.Plan.{Plan}
 use Rattle.command_words.specs.Requests.{render, compile, check, demo}
 use Rattle.host_modes.specs.Asked.{Asked, IfRender}
-use Rattle.host_modes.specs.Causes.{IsCaused}
+use Rattle.host_modes.specs.Causes.{IsByWords, IsCaused}
 use Rattle.host_modes.specs.Outside.{Outside}
 use Rattle.host_modes.specs.Readings.{IsBegun, IsWritten}
 use Rattle.host_modes.specs.Works.{IsAnswered}
@@ -29,6 +29,7 @@ pub record IsRun (asked : Asked) (old new : Outside) (end : End) (kept : Option 
   -- the plan and the report
   pub answered : IsAnswered asked old.files end kept old.report new.report
   -- why
+  pub by_words : IsByWords asked end
   pub cause : IsCaused asked old.files (Rose old.read_faults new.read_faults) (Rose old.write_faults new.write_faults)
       (Rose old.report_faults new.report_faults) end
   -- the counts

@@ -11,7 +11,7 @@ use Rattle.command_words.specs.Requests.{render, compile, check, demo}
 use Rattle.host_modes.specs.Asked.{mode_of, Asked}
 use Rattle.host_modes.specs.Demos.{demo_graph, demo_text}
 use Rattle.host_modes.specs.Plans.{IsBestPlan, IsJudged, IsPlanUnder}
-use Rattle.host_modes.specs.Readings.{MayBeReady}
+use Rattle.host_modes.specs.Readings.{MayRender}
 use Rattle.host_modes.specs.declared.ends.End.{End}
 use Rattle.host_modes.specs.declared.ends.End.TheVariants.{Done, No, WriteFault, ReportFault}
 
@@ -41,7 +41,7 @@ verdict_line end = codes "yes" ++ 10 ∷ []
 -- the plan, the text for the report, and the end that comes where nothing fails any more
 abbrev pub IsWork : Asked → Option Holding → Plan → List ℕ → End → Type 0
 IsWork (Ok (render q)) held plan text end =
-    IsPlanUnder q.graph (mode_of q.waves) held plan × (text ≡ text_of plan) × (end ≡ Done) × MayBeReady q held
+    IsPlanUnder q.graph (mode_of q.waves) held plan × (text ≡ text_of plan) × (end ≡ Done) × MayRender q held
 IsWork (Ok (compile q)) held plan text end = IsPlanUnder q.graph (mode_of q.waves) held plan × (text ≡ text_of plan) × (end ≡ Done)
 IsWork (Ok (check q)) held plan text end = IsJudged q held plan end × (text ≡ verdict_line end)
 IsWork (Ok (demo q)) held plan text end = IsBestPlan (demo_graph q) OneByOne plan × (text ≡ demo_text q plan) × (end ≡ Done)

@@ -5,7 +5,7 @@ ghost use Rattle.command_words.specs.Checking.{check_said};
 ghost use Rattle.command_words.specs.Requests.{check};
 ghost use Rattle.gh_outside.specs.Causes.{Rose};
 ghost use Rattle.host_modes.specs.Causes.{IsCheckEnd, Stops};
-ghost use Rattle.host_modes.specs.Ends.{IsEarly};
+ghost use Rattle.host_modes.specs.Ends.{IsOfFiles};
 ghost use Rattle.host_modes.specs.Outside.{outside};
 ghost use Rattle.host_modes.specs.Plans.{IsVerdict};
 ghost use Rattle.host_modes.specs.Runs.{IsRun};
@@ -52,7 +52,7 @@ fn prepare<F: Folder>(alloc: Global, folder: &mut F, request: &CheckRequest) -> 
     ensures held { F.held folder.new ≡ F.held folder.old }
     ensures work { IfOk result (λ w. IsWork (Asks (check (check_said request.now))) (F.held folder.old) w.plan w.text.items w.end) }
     ensures stops { IfErr result (Stops (IsCheckEnd (check_said request.now) (F.held folder.old)) (Rose (F.read_faults folder.old) (F.read_faults folder.new))) }
-    ensures early { IfErr result IsEarly }
+    ensures early { IfErr result IsOfFiles }
     ensures reads { F.read_faults folder.old ≤ F.read_faults folder.new }
     ensures writes { F.write_faults folder.new ≡ F.write_faults folder.old }
 {

@@ -8,7 +8,7 @@ ghost use Rattle.graph_model.specs.Sound.{IsSound};
 ghost use Rattle.plan_text.specs.Texts.{text_of, IsInRange};
 ghost use Rattle.host_modes.specs.Asked.{mode_of};
 ghost use Rattle.host_modes.specs.Causes.{IsCompileEnd, Stops};
-ghost use Rattle.host_modes.specs.Ends.{IsEarly};
+ghost use Rattle.host_modes.specs.Ends.{IsOfFiles};
 ghost use Rattle.host_modes.specs.Outside.{outside};
 ghost use Rattle.host_modes.specs.Plans.{IsBestPlan};
 ghost use Rattle.host_modes.specs.Runs.{IsRun};
@@ -50,12 +50,14 @@ fn prepare<F: Folder>(alloc: Global, folder: &mut F, request: &CompileRequest) -
     ensures held { F.held folder.new ≡ F.held folder.old }
     ensures work { IfOk result (λ w. IsWork (Asks (compile (compile_said request.now))) (F.held folder.old) w.plan w.text.items w.end) }
     ensures stops { IfErr result (Stops (IsCompileEnd (compile_said request.now) (F.held folder.old)) (Rose (F.read_faults folder.old) (F.read_faults folder.new))) }
-    ensures early { IfErr result IsEarly }
+    ensures early { IfErr result IsOfFiles }
     ensures reads { F.read_faults folder.old ≤ F.read_faults folder.new }
     ensures writes { F.write_faults folder.new ≡ F.write_faults folder.old }
 {
     let graph = graph_under(alloc, folder, request.graph)?;
-    let (plan, text) = planned(alloc, &graph, request.waves).map_err(|_| End::Memory)?;
+    let Ok((plan, text)) = planned(alloc, &graph, request.waves) else {
+        return Err(End::Memory);
+    };
     Ok(Work {
         plan,
         text,

@@ -8,29 +8,36 @@ ghost use Rattle.graph_gen.specs.Draws.{samples_drawn};
 ghost use Rattle.graph_model.specs.Sound.{IsSound};
 ghost use Rattle.plan_model.specs.Certified.{IsCertified};
 ghost use Rattle.wav_pcm.specs.Samples.{bytes_of};
-ghost use Rattle.host_modes.specs.Demos.{demo_lines};
+ghost use Rattle.host_modes.specs.Demos.{demo_bytes, demo_frames, demo_graph, demo_lines};
+ghost use Rattle.plan_model.specs.declared.schedule.Mode.TheVariants.{OneByOne};
 ghost use Rattle.host_modes.specs.Outside.{outside};
+ghost use Rattle.host_modes.specs.Plans.{IsBestPlan};
 ghost use Rattle.host_modes.specs.Runs.{IsRun};
 ghost use Rattle.host_modes.specs.Works.{IsWork};
 
 use crate::ends::{End, Outcome};
-use crate::modes::compile::planned;
 use crate::modes::reporting::{Work, reported};
-use crate::modes::texts::put_row;
+use crate::modes::texts::{put_row, put_sum_row};
 use crate::output::files::planned_answer;
+use crate::reading::recordings::silence;
 use command_words::DemoRequest;
 use connections::{Checked, check};
 use gh_outside::{Folder, Sink};
 use graph_gen::{graph_of, samples_of};
-use graph_model::{Graph, List, Refused};
+use graph_model::{Graph, Refused};
 use plan_checker::{Yes, verdict};
-use plan_model::Plan;
+use plan_compiler::compile;
+use plan_model::{Mode, Plan};
 use std::alloc::{AllocError, Global};
-use std::fmt::Write;
 use wav_pcm::frame_bytes;
 
 /// How many frames of samples come in; silence comes after them, as long as the graph's latency.
-const FRAMES: u32 = 4800;
+fn frames() -> u32
+    ensures value { result ≡ demo_frames }
+    ensures few { result ≤ 4800 }
+{
+    4800
+}
 
 /// A graph that is sound, checked.
 fn checked(alloc: Global, graph: Graph) -> Result<Checked, AllocError>
@@ -55,42 +62,125 @@ fn judge(alloc: Global, graph: &Checked, plan: &Plan) -> Result<(), AllocError>
     }
 }
 
-/// The samples of a seed, and then frames of silence, of two channels, interleaved and scaled to 32 bits.
-fn input(alloc: Global, seed: u64, silent: u64) -> Result<Vec<i64>, AllocError>
-    requires { silent ≤ 2 ^ 26 }
-    ensures { IfOk result (λ v. v.items ≡ samples_drawn seed (4800 * 2) ++ replicate (silent * 2) (pos 0)) }
+/// A list of the same samples, which can grow.
+fn copied(alloc: Global, samples: &[i64]) -> Result<Vec<i64>, AllocError>
+    ensures { IfOk result (λ v. v.items ≡ samples.now) }
 {
-    let samples = samples_of(alloc, seed, FRAMES)?;
-    let silence = vec![in alloc; 0i64; silent as usize * 2]?;
-    let mut input = samples.as_slice().to_vec(alloc)?;
+    samples.to_vec(alloc)
+}
+
+/// Frames of the samples of a seed, and then of silence, of two channels, interleaved and scaled to 32 bits.
+fn input(alloc: Global, seed: u64, frames: u32, silent: u64) -> Result<Vec<i64>, AllocError>
+    requires { silent ≤ 2 ^ 26 }
+    ensures { IfOk result (λ v. v.items ≡ samples_drawn seed (frames * 2) ++ replicate (silent * 2) (pos 0)) }
+{
+    let samples = samples_of(alloc, seed, frames)?;
+    let silence = silence(alloc, silent as u128, 2)?;
+    let mut input = copied(alloc, samples.as_slice())?;
     input.extend_from_slice(&silence)?;
     Ok(input)
 }
 
+/// The sum of bytes.
+fn sum_of(bytes: &[u8]) -> u64
+    requires { length bytes.now < 2 ^ 40 }
+    ensures { result ≡ sum bytes.now }
+{
+    let mut sum = 0u64;
+    for byte in bytes {
+        sum += *byte as u64;
+    }
+    sum
+}
+
 /// The sum of the bytes that samples have in 16 bits.
-fn byte_sum(alloc: Global, samples: &List<i64>) -> Result<u64, AllocError>
+fn byte_sum(alloc: Global, samples: &[i64]) -> Result<u64, AllocError>
     requires { length samples.now < 2 ^ 32 }
     ensures { IfOk result (λ n. n ≡ sum (bytes_of 16 samples.now)) }
 {
     let mut bytes = vec![in alloc; 0u8; samples.len() * 2]?;
-    frame_bytes(16, samples.as_slice(), &mut bytes);
-    Ok(bytes.iter().map(|byte| *byte as u64).sum())
+    frame_bytes(16, samples, &mut bytes);
+    Ok(sum_of(&bytes))
 }
 
 /// The six lines of a demonstration.
-fn text(alloc: Global, graph: &Graph, plan: &Plan, sum: u64) -> Result<Vec<u8>, AllocError>
+fn lines(alloc: Global, graph: &Graph, plan: &Plan, sum: u64) -> Result<Vec<u8>, AllocError>
     requires { plan.now.latency ≤ 2 ^ 26 }
     ensures { IfOk result (λ text. text.items ≡ demo_lines graph.now plan.now sum) }
 {
-    let frames = FRAMES as u64 + plan.latency;
+    let frames = frames() as u64 + plan.latency;
     let mut text = String::new(alloc);
     put_row(&mut text, "nodes", graph.nodes.len() as u64)?;
     put_row(&mut text, "connections", graph.connections.len() as u64)?;
     put_row(&mut text, "latency", plan.latency)?;
     put_row(&mut text, "total", plan.total)?;
     put_row(&mut text, "channels", plan.channels as u64)?;
-    write!(text, "frames {frames} sum {sum}\n")?;
+    put_sum_row(&mut text, frames, sum)?;
     Ok(text.into_bytes())
+}
+
+/// What is reported of a demonstration.
+fn text(alloc: Global, graph: &Checked, plan: &Plan, sum: u64) -> Result<Vec<u8>, AllocError>
+    requires { plan.now.latency ≤ 2 ^ 26 }
+    ensures { IfOk result (λ text. text.items ≡ demo_lines graph.now plan.now sum) }
+{
+    lines(alloc, graph.graph(), plan, sum)
+}
+
+/// The graph of a request.
+fn graph_for(alloc: Global, request: &DemoRequest) -> Result<Checked, AllocError>
+    requires { (3 ≤ request.now.nodes) × (request.now.nodes ≤ 512) }
+    ensures is { IfOk result (λ g. g ≡ demo_graph (demo_said request.now)) }
+    ensures sound { IfOk result IsSound }
+{
+    let graph = graph_of(alloc, request.seed, request.nodes)?;
+    checked(alloc, graph)
+}
+
+/// The sum of the bytes of the graph's answer.
+fn answer_sum(
+    alloc: Global,
+    graph: &Checked,
+    plan: &Plan,
+    request: &DemoRequest,
+) -> Result<u64, AllocError>
+    requires nodes { 3 ≤ request.now.nodes }
+    requires is { graph.now ≡ demo_graph (demo_said request.now) }
+    requires sound { IsSound graph.now }
+    requires plan { IsCertified graph.now plan.now }
+    ensures { IfOk result (λ n. n ≡ sum (demo_bytes (demo_said request.now))) }
+{
+    let input = input(alloc, request.seed, frames(), plan.latency)?;
+    let answer = planned_answer(alloc, graph, plan, &input)?;
+    byte_sum(alloc, answer.as_slice())
+}
+
+/// The plan of a graph one by one, which the checker judges yes.
+fn judged_plan(alloc: Global, graph: &Checked) -> Result<Plan, AllocError>
+    requires { IsSound graph.now }
+    ensures { IfOk result (IsBestPlan graph.now OneByOne) }
+{
+    let plan = compile(alloc, graph, Mode::OneByOne)?;
+    judge(alloc, graph, &plan)?;
+    Ok(plan)
+}
+
+/// Makes the text of a graph and its plan.
+fn demonstration(
+    alloc: Global,
+    graph: &Checked,
+    plan: &Plan,
+    request: &DemoRequest,
+) -> Result<Vec<u8>, AllocError>
+    requires nodes { 3 ≤ request.now.nodes }
+    requires is { graph.now ≡ demo_graph (demo_said request.now) }
+    requires sound { IsSound graph.now }
+    requires plan { IsCertified graph.now plan.now }
+    requires late { plan.now.latency ≤ 2 ^ 26 }
+    ensures { IfOk result (λ text. text.items ≡ demo_lines graph.now plan.now (sum (demo_bytes (demo_said request.now)))) }
+{
+    let sum = answer_sum(alloc, graph, plan, request)?;
+    text(alloc, graph, plan, sum)
 }
 
 /// Makes the graph, compiles it one by one, has the plan judged, and renders the samples.
@@ -98,13 +188,9 @@ fn prepare(alloc: Global, request: &DemoRequest) -> Result<Work, AllocError>
     requires { (3 ≤ request.now.nodes) × (request.now.nodes ≤ 512) }
     ensures { IfOk result (λ w. IsWork (Asks (demo (demo_said request.now))) None w.plan w.text.items w.end) }
 {
-    let graph = checked(alloc, graph_of(alloc, request.seed, request.nodes)?)?;
-    let (plan, _) = planned(alloc, &graph, false)?;
-    judge(alloc, &graph, &plan)?;
-    let input = input(alloc, request.seed, plan.latency)?;
-    let answer = planned_answer(alloc, &graph, &plan, &input)?;
-    let sum = byte_sum(alloc, &answer)?;
-    let text = text(alloc, graph.graph(), &plan, sum)?;
+    let graph = graph_for(alloc, request)?;
+    let plan = judged_plan(alloc, &graph)?;
+    let text = demonstration(alloc, &graph, &plan, request)?;
     Ok(Work {
         plan,
         text,

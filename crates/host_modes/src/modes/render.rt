@@ -9,7 +9,7 @@ ghost use Rattle.gh_outside.specs.Causes.{Rose};
 ghost use Rattle.plan_text.specs.Texts.{text_of};
 ghost use Rattle.host_modes.specs.Asked.{mode_of};
 ghost use Rattle.host_modes.specs.Causes.{IsReadEnd, Stops};
-ghost use Rattle.host_modes.specs.Ends.{IsEarly};
+ghost use Rattle.host_modes.specs.Ends.{IsOfFiles};
 ghost use Rattle.host_modes.specs.Files.{file_of, HasRoom};
 ghost use Rattle.host_modes.specs.Outside.{outside};
 ghost use Rattle.host_modes.specs.Plans.{IsPlanUnder};
@@ -43,14 +43,18 @@ fn prepare<F: Folder>(alloc: Global, folder: &mut F, request: &RenderRequest) ->
     ensures output { IfOk result (λ j. IsOutput (render_said request.now) (F.held folder.old) (file_of j.file)) }
     ensures room { IfOk result (λ j. HasRoom j.file) }
     ensures stops { IfErr result (Stops (IsReadEnd (render_said request.now) (F.held folder.old)) (Rose (F.read_faults folder.old) (F.read_faults folder.new))) }
-    ensures early { IfErr result IsEarly }
+    ensures early { IfErr result IsOfFiles }
     ensures reads { F.read_faults folder.old ≤ F.read_faults folder.new }
     ensures writes { F.write_faults folder.new ≡ F.write_faults folder.old }
 {
     let graph = graph_under(alloc, folder, request.graph)?;
     let recording = recording_under(alloc, folder, &graph, request)?;
-    let (plan, text) = planned(alloc, &graph, request.waves).map_err(|_| End::Memory)?;
-    let file = rendered_file(alloc, &graph, &plan, &recording).map_err(|_| End::Memory)?;
+    let Ok((plan, text)) = planned(alloc, &graph, request.waves) else {
+        return Err(End::Memory);
+    };
+    let Ok(file) = rendered_file(alloc, &graph, &plan, &recording) else {
+        return Err(End::Memory);
+    };
     Ok(Job { plan, text, file })
 }
 

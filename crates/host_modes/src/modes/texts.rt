@@ -1,7 +1,7 @@
 //! The texts that `check` and `demo` report.
 
-ghost use Rattle.std.specs.Prelude.{◌≡◌, ◌++◌, ◌<◌, ◌^◌, ℕ, IfOk, OnOk, sum, length, string_bytes};
-ghost use Rattle.host_modes.specs.Demos.{row};
+ghost use Rattle.std.specs.Prelude.{◌≡◌, ◌++◌, IfOk, OnOk, string_bytes};
+ghost use Rattle.host_modes.specs.Demos.{row, sum_row};
 ghost use Rattle.host_modes.specs.Works.{rule_name, verdict_line};
 ghost use Rattle.host_modes.specs.declared.ends.End.TheVariants.{Done, No as Not};
 
@@ -54,8 +54,17 @@ pub(crate) fn no_line(alloc: Global, no: No) -> Result<Vec<u8>, AllocError>
 }
 
 /// Adds a line of a word and a number.
+#[tactic(auto, unfolding(crate::specs::Demos::row))]
 pub(crate) fn put_row(text: &mut String, word: &str, number: u64) -> Result<(), AllocError>
     ensures { OnOk result (string_bytes text.new ≡ string_bytes text.old ++ row word.now number) }
 {
     write!(text, "{word} {number}\n")
+}
+
+/// Adds the line on what was rendered.
+#[tactic(auto, unfolding(crate::specs::Demos::sum_row))]
+pub(crate) fn put_sum_row(text: &mut String, frames: u64, sum: u64) -> Result<(), AllocError>
+    ensures { OnOk result (string_bytes text.new ≡ string_bytes text.old ++ sum_row frames sum) }
+{
+    write!(text, "frames {frames} sum {sum}\n")
 }

@@ -4,7 +4,7 @@ ghost use Rattle.std.specs.Prelude.{◌≡◌, ◌≤◌, IfOk, IfErr};
 ghost use Rattle.graph_model.specs.Sound.{Fits, IsSound};
 ghost use Rattle.gh_outside.specs.Causes.{Rose};
 ghost use Rattle.host_modes.specs.Causes.{IsGraphEnd, Stops};
-ghost use Rattle.host_modes.specs.Ends.{IsEarly};
+ghost use Rattle.host_modes.specs.Ends.{IsOfFiles};
 ghost use Rattle.host_modes.specs.Readings.{FindsGraph, FindsRecords};
 ghost use Rattle.host_modes.specs.Steps.{Refuses};
 
@@ -22,7 +22,7 @@ fn records_under<F: Folder>(alloc: Global, folder: &mut F, name: &str) -> Result
     ensures fits { IfOk result Fits }
     ensures ok { IfOk result (λ g. FindsRecords name.now g (F.held folder.old)) }
     ensures stops { IfErr result (Stops (IsGraphEnd name.now (F.held folder.old)) (Rose (F.read_faults folder.old) (F.read_faults folder.new))) }
-    ensures early { IfErr result IsEarly }
+    ensures early { IfErr result IsOfFiles }
     ensures reads { F.read_faults folder.old ≤ F.read_faults folder.new }
     ensures writes { F.write_faults folder.new ≡ F.write_faults folder.old }
 {
@@ -43,7 +43,7 @@ fn checked(alloc: Global, graph: Graph) -> Result<Checked, End>
     requires { Fits graph }
     ensures ok { IfOk result (λ g. (g ≡ graph) × IsSound g) }
     ensures stops { IfErr result (Refuses graph) }
-    ensures early { IfErr result IsEarly }
+    ensures early { IfErr result IsOfFiles }
 {
     match check(alloc, graph) {
         Ok(graph) => Ok(graph),
@@ -62,7 +62,7 @@ pub(crate) fn graph_under<F: Folder>(
     ensures ok { IfOk result (λ g. FindsGraph name.now g (F.held folder.old)) }
     ensures sound { IfOk result IsSound }
     ensures stops { IfErr result (Stops (IsGraphEnd name.now (F.held folder.old)) (Rose (F.read_faults folder.old) (F.read_faults folder.new))) }
-    ensures early { IfErr result IsEarly }
+    ensures early { IfErr result IsOfFiles }
     ensures reads { F.read_faults folder.old ≤ F.read_faults folder.new }
     ensures writes { F.write_faults folder.new ≡ F.write_faults folder.old }
 {

@@ -3,7 +3,7 @@
 ghost use Rattle.std.specs.Prelude.{◌≡◌, ◌≤◌, IfOk, IfErr};
 ghost use Rattle.gh_outside.specs.Causes.{Rose};
 ghost use Rattle.host_modes.specs.Causes.{IsTextEnd, Stops};
-ghost use Rattle.host_modes.specs.Ends.{IsEarly};
+ghost use Rattle.host_modes.specs.Ends.{IsOfFiles};
 ghost use Rattle.host_modes.specs.Readings.{FindsPlan};
 
 use crate::ends::End;
@@ -19,7 +19,7 @@ pub(crate) fn plan_under<F: Folder>(alloc: Global, folder: &mut F, name: &str) -
     ensures held { F.held folder.new ≡ F.held folder.old }
     ensures ok { IfOk result (λ plan. FindsPlan name.now plan (F.held folder.old)) }
     ensures stops { IfErr result (Stops (IsTextEnd name.now (F.held folder.old)) (Rose (F.read_faults folder.old) (F.read_faults folder.new))) }
-    ensures early { IfErr result IsEarly }
+    ensures early { IfErr result IsOfFiles }
     ensures reads { F.read_faults folder.old ≤ F.read_faults folder.new }
     ensures writes { F.write_faults folder.new ≡ F.write_faults folder.old }
 {

@@ -13,7 +13,7 @@ ghost use Rattle.host_modes.specs.Forms.{written_frames, IsForm, IsFormOf};
 ghost use Rattle.graph_model.specs.Graphs.{in_channels};
 ghost use Rattle.host_modes.specs.Recordings.{IsInput};
 ghost use Rattle.command_words.specs.Rendering.{render_said};
-ghost use Rattle.host_modes.specs.Ends.{IsEarly};
+ghost use Rattle.host_modes.specs.Ends.{IsOfFiles};
 ghost use Rattle.host_modes.specs.Steps.{FindsHead, IsHeadEnd, IsTooLong};
 ghost use Rattle.wav_pcm.specs.declared.head.Head.{Head as HeadValue};
 
@@ -40,7 +40,7 @@ fn head_under<F: Folder>(folder: &mut F, graph: &Checked, name: &str) -> Result<
     ensures head { IfOk result (λ h. IsHead h × (h.channels ≡ in_channels graph.now)) }
     ensures there { IfOk result (λ h. ¬ IsPast name.now (h.from + data_size h) (F.held folder.old)) }
     ensures stops { IfErr result (Stops (IsHeadEnd name.now graph.now (F.held folder.old)) (Rose (F.read_faults folder.old) (F.read_faults folder.new))) }
-    ensures early { IfErr result IsEarly }
+    ensures early { IfErr result IsOfFiles }
     ensures reads { F.read_faults folder.old ≤ F.read_faults folder.new }
     ensures writes { F.write_faults folder.new ≡ F.write_faults folder.old }
 {
@@ -60,7 +60,7 @@ fn short_form(graph: &Checked, request: &RenderRequest, head: &Head) -> Result<F
     ensures short { IfOk result (λ f. written_frames f * (f.channels * (f.bits / 8)) ≤ most_data) }
     ensures few { IfOk result (λ f. (f.frames ≤ 2 ^ 33) × (f.skipped ≤ f.frames)) }
     ensures long { IfErr result (IsTooLong (render_said request.now) graph.now head.now) }
-    ensures early { IfErr result IsEarly }
+    ensures early { IfErr result IsOfFiles }
 {
     let form = output_form(graph, request, head);
     let bytes = form.data_bytes();
@@ -85,7 +85,7 @@ fn samples_under<F: Folder>(
     ensures whole { IfOk result (λ v. length v.items ≡ head.now.frames * head.now.channels) }
     ensures small { IfOk result (λ v. AreUpTo (2 ^ 31) v.items) }
     ensures stops { IfErr result (Stops (λ end. ⊥) (Rose (F.read_faults folder.old) (F.read_faults folder.new))) }
-    ensures early { IfErr result IsEarly }
+    ensures early { IfErr result IsOfFiles }
     ensures reads { F.read_faults folder.old ≤ F.read_faults folder.new }
     ensures writes { F.write_faults folder.new ≡ F.write_faults folder.old }
 {
@@ -99,7 +99,7 @@ fn samples_under<F: Folder>(
 }
 
 /// The samples of silence, of so many frames and channels.
-fn silence(alloc: Global, frames: u128, channels: u32) -> Result<Vec<i64>, AllocError>
+pub(crate) fn silence(alloc: Global, frames: u128, channels: u32) -> Result<Vec<i64>, AllocError>
     requires frames { frames ≤ 2 ^ 33 }
     requires channels { channels ≤ 32 }
     ensures { IfOk result (λ v. v.items ≡ replicate (frames * channels) (pos 0)) }
@@ -124,7 +124,7 @@ pub(crate) fn recording_under<F: Folder>(
     ensures whole { IfOk result (λ r. length r.samples.items ≡ r.form.frames * in_channels graph.now) }
     ensures small { IfOk result (λ r. AreUpTo (2 ^ 31) r.samples.items) }
     ensures stops { IfErr result (Stops (IsInputEnd (render_said request.now) graph.now (F.held folder.old)) (Rose (F.read_faults folder.old) (F.read_faults folder.new))) }
-    ensures early { IfErr result IsEarly }
+    ensures early { IfErr result IsOfFiles }
     ensures reads { F.read_faults folder.old ≤ F.read_faults folder.new }
     ensures writes { F.write_faults folder.new ≡ F.write_faults folder.old }
 {
