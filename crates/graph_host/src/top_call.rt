@@ -11,16 +11,12 @@ ghost use Rattle.host_modes.specs.Readings.{IsBegun, IsWritten};
 ghost use Rattle.host_modes.specs.Runs.{KeepsFiles};
 ghost use Rattle.host_modes.specs.Works.{IsAnswered};
 ghost use Rattle.host_modes.specs.declared.ends.End.{End as AnyEnd};
+ghost use Rattle.host_modes.specs.declared.ends.End.TheVariants as End;
 
-use crate::ends::{End, Run};
-use crate::modes::check::check;
-use crate::modes::compile::compile;
-use crate::modes::demo::demo;
-use crate::modes::render::render;
+use crate::runs::Run;
 use crate::status::ended;
-use command_words::{Request, WordsFault, request};
 use gh_outside::{Folder, Sink};
-use graph_model::Refused;
+use host_modes::perform;
 use std::alloc::Global;
 use std::thread::Threads;
 

@@ -2,6 +2,6 @@ mod ChannelLaws
 mod PartLaws
 mod OutputLaws
 mod EndLaws
-mod EndOnce
+pub mod EndOnce
 mod RunLaws
 mod DemoLaws

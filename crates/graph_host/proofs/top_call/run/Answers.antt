@@ -1,0 +1,16 @@
+use Rattle.std.proofs.Common.{map, string_bytes, rules}
+use Rattle.gh_outside.specs.Causes.{Rose}
+use Rattle.command_words.specs.Requests.{request_of}
+use Rattle.host_modes.specs.Causes.{IsCaused}
+use Rattle.host_modes.proofs.EndOnce.{exactly}
+use Rattle.graph_host.proofs.top_call.run.Goals as goal
+
+pub returns-clause-exact : goal.returns-clause-exact
+returns-clause-exact g c =
+    let asked = request_of (map string_bytes c.args.words.items) in
+    let held = g.F.Folder.held c.args.folder.now in
+    let reads = Rose (g.F.Folder.read_faults c.args.folder.now) (g.F.Folder.read_faults c.perform-outcome.new.folder) in
+    let writes = Rose (g.F.Folder.write_faults c.args.folder.now) (g.F.Folder.write_faults c.perform-outcome.new.folder) in
+    let reports = Rose (g.R.Sink.faults c.args.report.now) (g.R.Sink.faults c.perform-outcome.new.report) in
+    let cause : IsCaused asked held reads writes reports c.ended.result.end = search rules in
+    λ end told no_read no_write no_report. exactly asked held reads writes reports c.ended.result.end end cause told no_read no_write no_report
