@@ -65,3 +65,6 @@ fn print_end<R: Eprint>(rt: &R, run: Run) -> ExitCode {
     }
     ExitCode::from(run.status)
 }
+
+#[cfg(test)]
+mod tests;
