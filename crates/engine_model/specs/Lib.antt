@@ -1,0 +1,6 @@
+pub mod Machines
+pub mod States
+pub mod Engines
+pub mod Events
+pub mod Laws
+pub mod Sizes
