@@ -11,7 +11,7 @@ use Rattle.graph_model.specs.declared.graph.Connection.{Connection}
 use Rattle.graph_model.specs.declared.graph.Graph.{Graph}
 use Rattle.plan_model.specs.declared.buffers.Home.{Home}
 use Rattle.orders.specs.Orders as core
-use Rattle.engine_model.specs.Streams.{in_at, out_at}
+use Rattle.graph_model.specs.Streams.{in_at}
 use Rattle.engine_model.specs.Machines.{Kept, machine}
 
 abbrev node : ℕ → Kind → Node

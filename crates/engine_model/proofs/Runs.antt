@@ -4,7 +4,6 @@ use Rattle.std.specs.Prelude.{slice_get, slice_index_or}
 use Rattle.std.specs.List.{Contains, filter, find, flat_map}
 use Rattle.std.proofs.lemmas.List.Sorted.{Contains-permutation}
 use Rattle.plan_model.proofs.CertifiedLaws.{stands_in}
-use Rattle.graph_model.proofs.NodeFacts.{output_is_node}
 use Rattle.std.specs.Option.{is_some}
 use Rattle.std.proofs.lemmas.Bool.{eqb-true, eqb-false, cases_Bool, cases_lt, or_cases, or_left, or_right, cond-true, cond-false, eq-eqb, false_from_ne_true}
 use Rattle.graph_model.specs.Histories.{Frame}
@@ -14,7 +13,8 @@ use Rattle.graph_model.specs.Sound.{IsSound}
 use Rattle.graph_model.specs.declared.graph.Node.{Node}
 use Rattle.graph_model.specs.declared.graph.Connection.{Connection}
 use Rattle.graph_model.specs.declared.graph.Graph.{Graph}
-use Rattle.graph_model.proofs.PathLaws.{same_name, at_tail, first_or_later, live_by_test, live_by_paths}
+use Rattle.graph_model.proofs.PathLaws.{same_name, at_tail, first_or_later}
+use Rattle.graph_model.proofs.LiveLaws.{live_by, live_test}
 use Rattle.graph_model.proofs.RankLaws.{sound_is_ranked}
 use Rattle.graph_model.proofs.ReachLaws.{filter_has, filter_from}
 use Rattle.plan_model.specs.Schedules.{names, wave_of}
@@ -27,8 +27,8 @@ use Rattle.plan_model.proofs.ExampleTools.{listed}
 use Rattle.plan_model.proofs.Saved.{Contains-map, Contains-from_map}
 use Rattle.orders.specs.Orders as core
 use Rattle.orders.proofs.Counts.{orders_run, wires_read_alone}
-use Rattle.engine_model.specs.Streams.{on, in_at, out_at}
-use Rattle.engine_model.specs.Machines.{Kept, machine, sources, buffer_of, homes_at}
+use Rattle.graph_model.specs.Streams.{on, out_at}
+use Rattle.engine_model.specs.Machines.{Kept, machine, sources, buffer_for, homes_at}
 use Rattle.engine_model.specs.States.{kept_at}
 use Rattle.engine_model.proofs.MachineLaws.{local_is, told_is}
 use Rattle.engine_model.proofs.Plans.{is_in_of, of_is_in, schedule, lasting, home_for, buffer_read, read_within, born_apart, read_apart, kept_apart, in_wave_at, of_wave_at, live_in_wave}
@@ -85,20 +85,16 @@ value_of (i ∷ hs) h y has one =
         ]
     ]
 
-pub read_by : (g : Graph) (homes : List Home) (cs : List Connection) (b : ℕ) → core.is_read (map (λ c. buffer_of homes c.src.0 c.src_channel) cs) b ≡ true
-    → (c : Connection) × Contains cs c × (buffer_of homes c.src.0 c.src_channel ≡ b)
+pub read_by : (g : Graph) (homes : List Home) (cs : List Connection) (b : ℕ) → core.is_read (map (λ c. buffer_for homes c) cs) b ≡ true
+    → (c : Connection) × Contains cs c × (buffer_for homes c ≡ b)
 read_by g homes [] b e = absurd (cc)
-read_by g homes (c ∷ cs) b e = go (buffer_of homes c.src.0 c.src_channel == b) refl e (read_by g homes cs b)
+read_by g homes (c ∷ cs) b e = go (buffer_for homes c == b) refl e (read_by g homes cs b)
   where
-    go : (t : Bool) → (buffer_of homes c.src.0 c.src_channel == b) ≡ t → (t || core.is_read (map (λ d. buffer_of homes d.src.0 d.src_channel) cs) b) ≡ true
-        → (core.is_read (map (λ d. buffer_of homes d.src.0 d.src_channel) cs) b ≡ true → (d : Connection) × Contains cs d × (buffer_of homes d.src.0 d.src_channel ≡ b))
-        → (d : Connection) × Contains (c ∷ cs) d × (buffer_of homes d.src.0 d.src_channel ≡ b)
+    go : (t : Bool) → (buffer_for homes c == b) ≡ t → (t || core.is_read (map (λ d. buffer_for homes d) cs) b) ≡ true
+        → (core.is_read (map (λ d. buffer_for homes d) cs) b ≡ true → (d : Connection) × Contains cs d × (buffer_for homes d ≡ b))
+        → (d : Connection) × Contains (c ∷ cs) d × (buffer_for homes d ≡ b)
     go true t w rest = (c, (0, omega arith, refl), eqb-true _ b t)
     go false t w rest = let r = rest w in (r.0, at_tail c r.0 cs r.1, r.2)
-
-map_all : {X Y : Type 0} (f h : X → Y) (xs : List X) → ((x : X) → Contains xs x → f x ≡ h x) → map f xs ≡ map h xs
-map_all f h [] e = refl
-map_all f h (x ∷ xs) e = let first = e x (0, omega arith, refl) in let rest : map f xs ≡ map h xs = map_all f h xs (λ y c. e y (at_tail x y xs c)) in cc
 
 pub some_node : (ns : List Node) (v : ℕ) → Contains (map (λ n. n.uid.0) ns) v → (m : Node) × (find (λ n. n.uid.0 == v) ns ≡ Some m)
 some_node [] v has = let l = has.1 in absurd (omega arith)
@@ -124,7 +120,7 @@ module _ (g : Graph) (plan : Plan) (sound : IsSound g) (c : IsCertified g plan) 
       (filter_has (λ d. is_live g d.dst.0) g.connections e k.0 (ap (is_live g) at ∙ on), at)
 
   pub on_in : (k v : ℕ) (w : Wave) → slice_get plan.waves k ≡ Some w → core.is_in v (names w) ≡ true → is_live g v ≡ true
-  on_in k v w at i = live_by_test g (depth g) ranked v (live_in_wave g plan sound c k v w at (of_is_in v (names w) i))
+  on_in k v w at i = live_test g sound v (live_in_wave g plan sound c k v w at (of_is_in v (names w) i))
 
   pub wave_is : (k v : ℕ) (w : Wave) → slice_get plan.waves k ≡ Some w → core.is_in v (names w) ≡ true → wave_of plan.waves v ≡ k
   wave_is k v w at i = in_wave_at g plan sound c k v w at (of_is_in v (names w) i)
@@ -184,7 +180,7 @@ module _ (g : Graph) (plan : Plan) (sound : IsSound g) (c : IsCertified g plan) 
     reads_right s w st at b v i k lt = through (connections_into g v) (λ e has. has)
       where
         through : (es : List Connection) → ((e : Connection) → Contains es e → Contains (connections_into g v) e)
-            → map (λ a. st.pool a k) (map (λ e. buffer_of plan.homes e.src.0 e.src_channel) es) ≡ map (λ e. on (out_at g p x e.src.0) e.src_channel (T + k)) es
+            → map (λ a. st.pool a k) (map (λ e. buffer_for plan.homes e) es) ≡ map (λ e. on (out_at g p x e.src.0) e.src_channel (T + k)) es
         through [] within = refl
         through (e ∷ es) within =
             let live = into_live v e (on_in s v w at i) (within e (0, omega arith, refl)) in
@@ -194,7 +190,7 @@ module _ (g : Graph) (plan : Plan) (sound : IsSound g) (c : IsCertified g plan) 
             let r1 = r.1 in
             let here = wave_is s v w at i in
             let there : wave_of plan.waves e.dst.0 ≡ wave_of plan.waves v = ap (wave_of plan.waves) live.1 in
-            let first : st.pool (buffer_of plan.homes e.src.0 e.src_channel) k ≡ on (out_at g p x e.src.0) e.src_channel (T + k) =
+            let first : st.pool (buffer_for plan.homes e) k ≡ on (out_at g p x e.src.0) e.src_channel (T + k) =
                 ap (λ a. st.pool a k) (buffer_read g plan sound c e h.0 h.1 h.2 h.3)
                 ∙ b.has h.0 h.1 (omega arith) (omega arith) k lt
                 ∙ ap (λ u. on (out_at g p x u.0) h.0.channel (T + k)) h.2 ∙ ap (λ d. on (out_at g p x e.src.0) d (T + k)) h.3 in
@@ -273,7 +269,7 @@ module _ (g : Graph) (plan : Plan) (sound : IsSound g) (c : IsCertified g plan) 
         stands : (v : ℕ) → is_live g v ≡ true → wave_of plan.waves v < 0 + length plan.waves
         stands v on =
             let l = stands_in v plan.waves (Contains-permutation (live_nodes g) (flat_map names plan.waves) v (schedule g plan sound c).once
-                  (filter_has (is_live g) (map (λ m. m.uid.0) g.nodes) v (listed g v (live_by_paths g (depth g) ranked (output_is_node g sound) v on)) on)) in
+                  (filter_has (is_live g) (map (λ m. m.uid.0) g.nodes) v (listed g v (live_by g sound v on)) on)) in
             omega arith
 
   -- and the buffers of every wave are apart
