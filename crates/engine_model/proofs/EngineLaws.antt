@@ -15,6 +15,7 @@ use Rattle.graph_model.specs.Kept.{StandsFor}
 use Rattle.graph_model.specs.declared.graph.Node.{Node}
 use Rattle.graph_model.proofs.BlockLaws.{length-before, length-frames_of}
 use Rattle.graph_model.proofs.LiveLaws.{live_by, output_is_live}
+use Rattle.graph_model.proofs.NodeFacts.{input_some}
 use Rattle.graph_model.proofs.RankLaws.{sound_is_ranked}
 use Rattle.graph_model.proofs.ReachLaws.{filter_from}
 use Rattle.plan_model.specs.Certified.{IsCertified, positions}
@@ -41,7 +42,7 @@ shifted_none : (m : ℕ) (h : History) → shifted 0 m h ≡ h
 shifted_none m h = let e : min 0 (length h) ≡ 0 = omega arith in ap (λ k. h ++ silence k m) e ∙ append-nil h
 
 module _ (e e' : Parts) (n : ℕ) (input output : List ℤ) (h : History) (sound : IsSound e.graph) (c : IsCertified e.graph e.plan) (same : IsSame e e')
-    (some : 0 < ins e) (some' : 0 < outs e) (li : length input ≡ n * ins e) (nodes : map (λ (j : Job). j.node) e'.jobs ≡ map (λ (j : Job). j.node) e.jobs)
+    (li : length input ≡ n * ins e) (nodes : map (λ (j : Job). j.node) e'.jobs ≡ map (λ (j : Job). j.node) e.jobs)
     (more : e'.frames ≡ e.frames + n) (stands : Stands e h) (any : AnyOrder e e' input output h) where
   ranked : IsRanked (depth e.graph) e.graph
   ranked = sound_is_ranked e.graph sound
@@ -96,7 +97,7 @@ module _ (e e' : Parts) (n : ℕ) (input output : List ℤ) (h : History) (sound
         ∙ ap (λ g. take n ((after_orders e input h (one_thread n e.plan.waves)).kept (output_name g)).came) same.graph
         ∙ ap (λ (z : Kept). take n z.came) (to_history (output_name e.graph) o.0 o.1 live)
         ∙ ap (λ z. take n (came_of e.graph (positions e.plan) (before x (T + n)) z (output_name e.graph))) o.1
-        ∙ ap (take n) (cond-false (is_input o.0.kind) (before x (T + n)) (came_in e.graph (positions e.plan) (before x (T + n)) (output_name e.graph)) o.2)
+        ∙ ap (take n) (cond-false (is_input o.0.kind) (before x (T + n)) (came_in e.graph (positions e.plan) (before x (T + n)) (output_name e.graph)) o.3)
         ∙ ap (λ k. take n (shifted k (ins_at e.graph (output_name e.graph)) (answer e.graph (before x (T + n))))) none
         ∙ ap (take n) (shifted_none (ins_at e.graph (output_name e.graph)) (answer e.graph (before x (T + n))))
 
@@ -123,7 +124,7 @@ module _ (e e' : Parts) (n : ℕ) (input output : List ℤ) (h : History) (sound
       }, output_is)
 
 pub orders_give : OrdersGiveAnswers
-orders_give e e' n input output h sound c same some some' li nodes more stands any =
-    let r = after_histories (λ k. k ≡ h) (λ k. Stands e' k × (frames_of (outs e) output ≡ take n (answer e.graph k))) (ins e) n input some li
-        (λ x T at brings. both e e' n input output h sound c same some some' li nodes more stands any x T at (λ k lt. sym (brings k lt))) h refl in
-    (r.0, r.1 ∙ ap (λ k. take k (answer e.graph (frames_of (ins e) input ++ h))) (sym (length-frames_of (ins e) n input some li)))
+orders_give e e' n input output h sound c same li nodes more stands any =
+    let r = after_histories (λ k. k ≡ h) (λ k. Stands e' k × (frames_of (outs e) output ≡ take n (answer e.graph k))) (ins e) n input (input_some e.graph sound) li
+        (λ x T at brings. both e e' n input output h sound c same li nodes more stands any x T at (λ k lt. sym (brings k lt))) h refl in
+    (r.0, r.1 ∙ ap (λ k. take k (answer e.graph (frames_of (ins e) input ++ h))) (sym (length-frames_of (ins e) n input (input_some e.graph sound) li)))

@@ -10,6 +10,7 @@ pub mod OutputFacts
 pub mod StateTimes
 pub mod NewJobs
 pub mod EngineLaws
+pub mod CuttingLaws
 pub mod Headroom
 pub mod Examples
 pub mod Inputs

@@ -14,7 +14,7 @@ use Rattle.plan_model.specs.declared.plan.Plan.{Plan}
 use Rattle.orders.specs.Orders as core
 use Rattle.engine_model.specs.Machines.{Kept, machine}
 use Rattle.engine_model.specs.States.{kept_at}
-use Rattle.engine_model.specs.Engines.{Job, JobStands, Parts, Stands, IsSame, Answers, ins, outs}
+use Rattle.engine_model.specs.Engines.{Job, JobStands, Parts, Stands, IsSame, Answers, ins}
 use Rattle.engine_model.specs.Events.{AnyOrder}
 
 -- ---- frame events
@@ -35,7 +35,7 @@ BlocksRun = (g : Graph) (plan : Plan) (x block : ℕ → Frame) (T n : ℕ) (ord
 -- an engine that a block leaves as its frame events do stands for the history with the block, and its output is the answer
 abbrev pub OrdersGiveAnswers : Type 0
 OrdersGiveAnswers = (e e' : Parts) (n : ℕ) (input output : List ℤ) (h : History) → IsSound e.graph → IsCertified e.graph e.plan → IsSame e e' →
-    0 < ins e → 0 < outs e → length input ≡ n * ins e → map (λ j. j.node) e'.jobs ≡ map (λ j. j.node) e.jobs → e'.frames ≡ e.frames + n →
+    length input ≡ n * ins e → map (λ j. j.node) e'.jobs ≡ map (λ j. j.node) e.jobs → e'.frames ≡ e.frames + n →
     Stands e h → AnyOrder e e' input output h →
     Stands e' (frames_of (ins e) input ++ h) × Answers e input output h
 

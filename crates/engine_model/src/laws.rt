@@ -1,5 +1,6 @@
 //! Laws of the definitions.
 
+ghost use Rattle.engine_model.specs.Cuttings.{NoCuttingShows, OutputsAreAnswers};
 ghost use Rattle.engine_model.specs.Laws.{BlocksRun, NewStands, OrdersGiveAnswers, OrdersNeverShow};
 ghost use Rattle.engine_model.specs.Sizes.{DelaysAreBounded, SumsAreBounded};
 
@@ -17,6 +18,16 @@ pub fn blocks_run()
 /// output is the answer.
 pub fn orders_give_answers()
     ensures { OrdersGiveAnswers }
+{}
+
+/// Blocks joined are as one block.
+pub fn no_cutting_shows()
+    ensures { NoCuttingShows }
+{}
+
+/// Of a new engine the outputs of all blocks joined are the answer of their inputs joined.
+pub fn outputs_are_answers()
+    ensures { OutputsAreAnswers }
 {}
 
 /// A new job stands for no frames.
