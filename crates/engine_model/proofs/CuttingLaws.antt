@@ -1,6 +1,5 @@
 -- Blocks joined are as one block.
-use Rattle.std.proofs.Common.{◌≡◌, ℕ, zero, suc, ◌+◌, ◌*◌, List, [], ◌∷◌, ◌++◌, length, take, drop, take_all, ℤ, refl, sym, ap, ◌∙◌, subst, arith}
-use Rattle.std.specs.List.{flat_map}
+use Rattle.std.proofs.Common.{◌≡◌, ℕ, ◌+◌, ◌*◌, List, [], ◌∷◌, ◌++◌, length, take, drop, take_all, ℤ, refl, sym, ap, ◌∙◌, subst, arith}
 use Rattle.std.proofs.lemmas.List.{append-nil, append_assoc, length-append}
 use Rattle.std.proofs.Math.Nat.{add-mul, zero-div}
 use Rattle.std.proofs.Math.Seq.{drop-append_seam, take-add}
@@ -9,13 +8,12 @@ use Rattle.graph_model.specs.Answers.{answer}
 use Rattle.graph_model.specs.Graphs.{in_channels, out_channels, output_name}
 use Rattle.graph_model.specs.Paths.{reach}
 use Rattle.graph_model.specs.Sound.{IsSound}
-use Rattle.graph_model.specs.declared.graph.Graph.{Graph}
 use Rattle.graph_model.proofs.AnswerLaws.{in-causal}
-use Rattle.graph_model.proofs.BlockLaws.{frames_of-append, length-frames_of}
+use Rattle.graph_model.proofs.BlockLaws.{frames_of-append}
 use Rattle.graph_model.proofs.NodeFacts.{input_some}
 use Rattle.graph_model.proofs.StreamTimes.{length-incoming}
-use Rattle.engine_model.specs.Engines.{Parts, Stands, IsSame, Answers, ins, outs}
-use Rattle.engine_model.specs.Cuttings.{Block, HasRendered, HaveRendered, inputs, outputs, NoCuttingShows, OutputsAreAnswers}
+use Rattle.engine_model.specs.Engines.{Parts, Stands, ins, outs}
+use Rattle.engine_model.specs.Cuttings.{HasRendered, inputs, outputs, NoCuttingShows, OutputsAreAnswers}
 use Rattle.engine_model.proofs.OutputFacts.{output_some}
 
 -- two blocks
@@ -37,14 +35,14 @@ module _ (e f e' : Parts) (sound : IsSound e.graph) (i o i' o' : List ℤ) (one 
   all h = ap (λ a. a ++ h) came ∙ append_assoc (frames_of (ins e) i') (frames_of (ins e) i) h
 
   last_answer : (h : History) → Stands e h
-    → frames_of (outs e) o' ≡ take (length (frames_of (ins e) i')) (answer e.graph (frames_of (ins e) i' ++ (frames_of (ins e) i ++ h)))
+      → frames_of (outs e) o' ≡ take (length (frames_of (ins e) i')) (answer e.graph (frames_of (ins e) i' ++ (frames_of (ins e) i ++ h)))
   last_answer h stands =
       subst (λ g. frames_of (out_channels g) o' ≡ take (length (frames_of (in_channels g) i')) (answer g (frames_of (in_channels g) i' ++ (frames_of (ins e) i ++ h))))
-        one.same.graph (two.answers (frames_of (ins e) i ++ h) (one.stands h stands))
+      one.same.graph (two.answers (frames_of (ins e) i ++ h) (one.stands h stands))
 
   -- the answer to the first block is what the answer to both drops
   first_answer : (h : History)
-    → drop (length (frames_of (ins e) i')) (answer e.graph (frames_of (ins e) i' ++ (frames_of (ins e) i ++ h))) ≡ answer e.graph (frames_of (ins e) i ++ h)
+      → drop (length (frames_of (ins e) i')) (answer e.graph (frames_of (ins e) i' ++ (frames_of (ins e) i ++ h))) ≡ answer e.graph (frames_of (ins e) i ++ h)
   first_answer h =
       sym (in-causal e.graph (reach e.graph) (frames_of (ins e) i' ++ (frames_of (ins e) i ++ h)) (length (frames_of (ins e) i')) (output_name e.graph))
       ∙ ap (answer e.graph) (drop-append_seam (frames_of (ins e) i') (frames_of (ins e) i ++ h))
@@ -52,17 +50,18 @@ module _ (e f e' : Parts) (sound : IsSound e.graph) (i o i' o' : List ℤ) (one 
   pub joined : HasRendered e (i ++ i') (o ++ o') e'
   joined = record {
     same = record { graph = two.same.graph ∙ one.same.graph; plan = two.same.plan ∙ one.same.plan; block = two.same.block ∙ one.same.block };
-    frames =
-        (one.frames.0 + comes.0,
-         length-append i i' ∙ ap (λ n. n + length i') one.frames.1 ∙ ap (λ n. one.frames.0 * ins e + n) comes.1 ∙ sym (add-mul one.frames.0 comes.0 (ins e)),
-         length-append o o' ∙ ap (λ n. n + length o') one.frames.2 ∙ ap (λ n. one.frames.0 * outs e + n) comes.2 ∙ sym (add-mul one.frames.0 comes.0 (outs e)));
+    frames = (
+      one.frames.0 + comes.0,
+      length-append i i' ∙ ap (λ n. n + length i') one.frames.1 ∙ ap (λ n. one.frames.0 * ins e + n) comes.1 ∙ sym (add-mul one.frames.0 comes.0 (ins e)),
+      length-append o o' ∙ ap (λ n. n + length o') one.frames.2 ∙ ap (λ n. one.frames.0 * outs e + n) comes.2 ∙ sym (add-mul one.frames.0 comes.0 (outs e)),
+    );
     stands = λ h stands.
         subst (Stands e') (ap (λ g. frames_of (in_channels g) i' ++ (frames_of (ins e) i ++ h)) one.same.graph ∙ sym (all h)) (two.stands (frames_of (ins e) i ++ h) (one.stands h stands));
     answers = λ h stands.
         went
         ∙ ap (λ a. a ++ frames_of (outs e) o) (last_answer h stands)
         ∙ ap (λ a. take (length (frames_of (ins e) i')) (answer e.graph (frames_of (ins e) i' ++ (frames_of (ins e) i ++ h))) ++ a)
-            (one.answers h stands ∙ ap (take (length (frames_of (ins e) i))) (sym (first_answer h)))
+        (one.answers h stands ∙ ap (take (length (frames_of (ins e) i))) (sym (first_answer h)))
         ∙ sym (take-add (length (frames_of (ins e) i')) (length (frames_of (ins e) i)) (answer e.graph (frames_of (ins e) i' ++ (frames_of (ins e) i ++ h))))
         ∙ ap (λ n. take n (answer e.graph (frames_of (ins e) i' ++ (frames_of (ins e) i ++ h)))) (sym (length-append (frames_of (ins e) i') (frames_of (ins e) i)))
         ∙ ap (λ a. take (length a) (answer e.graph (frames_of (ins e) i' ++ (frames_of (ins e) i ++ h)))) (sym came)
@@ -87,7 +86,7 @@ no_cutting_shows e e' (b ∷ bs) sound rendered =
     let f = rendered.0 in
     let one = rendered.1 in
     joined e rendered.0 e' sound b.0 b.1 (inputs bs) (outputs bs) one
-      (no_cutting_shows rendered.0 e' bs (subst (λ g. IsSound g) (sym one.same.graph) sound) rendered.2)
+    (no_cutting_shows rendered.0 e' bs (subst (λ g. IsSound g) (sym one.same.graph) sound) rendered.2)
 
 pub outputs_are_answers : OutputsAreAnswers
 outputs_are_answers e e' blocks sound new rendered =
@@ -97,4 +96,4 @@ outputs_are_answers e e' blocks sound new rendered =
     all.answers [] new
     ∙ ap (λ h. take (length (frames_of (ins e) (inputs blocks))) (answer e.graph h)) same
     ∙ take_all (length (frames_of (ins e) (inputs blocks))) (answer e.graph (frames_of (ins e) (inputs blocks)))
-        (omega (arith, length-incoming e.graph (reach e.graph) (frames_of (ins e) (inputs blocks)) (output_name e.graph)))
+    (omega (arith, length-incoming e.graph (reach e.graph) (frames_of (ins e) (inputs blocks)) (output_name e.graph)))

@@ -1,5 +1,5 @@
 -- The clauses on histories from the clause on orders.
-use Rattle.std.proofs.Common.{◌≡◌, ℕ, ◌+◌, ◌-◌, ◌*◌, ◌<◌, min, List, [], ◌++◌, length, map, take, get_or, ℤ, refl, sym, ap, ◌∙◌, subst, arith, true, false, Some}
+use Rattle.std.proofs.Common.{◌≡◌, ℕ, ◌+◌, ◌-◌, ◌*◌, ◌<◌, min, List, ◌++◌, length, map, take, get_or, ℤ, refl, sym, ap, ◌∙◌, subst, arith, true, Some}
 use Rattle.std.specs.List.{All, flat_map, Contains}
 use Rattle.std.proofs.lemmas.Bool.{cond-false}
 use Rattle.std.proofs.lemmas.List.{append-nil}
@@ -7,7 +7,7 @@ use Rattle.std.proofs.lemmas.List.Elements.{Contains-get_or}
 use Rattle.std.proofs.lemmas.List.Sorted.{Contains-permutation, IsPermutation-sym}
 use Rattle.graph_model.specs.Histories.{Frame, History, shifted, silence, before, frame_in, frames_of}
 use Rattle.graph_model.specs.Positions.{IsLaterBy}
-use Rattle.graph_model.specs.Graphs.{IsRanked, node_named, is_input, ins_at, output_name, out_channels, connections_into}
+use Rattle.graph_model.specs.Graphs.{IsRanked, node_named, is_input, ins_at, output_name, connections_into}
 use Rattle.graph_model.specs.Paths.{reach, is_live, live_nodes, depth}
 use Rattle.graph_model.specs.Answers.{answer}
 use Rattle.graph_model.specs.Sound.{IsSound}
@@ -28,7 +28,7 @@ use Rattle.plan_model.proofs.Saved.{Contains-map}
 use Rattle.plan_model.proofs.ShiftLaws.{later_by, latency_is_reach}
 use Rattle.engine_model.specs.Machines.{Kept, delays_into, windows_on}
 use Rattle.engine_model.specs.States.{kept_at}
-use Rattle.engine_model.specs.Engines.{Job, Parts, JobStands, Stands, Answers, IsSame, ins, outs, came_in, gone_into}
+use Rattle.engine_model.specs.Engines.{Job, Parts, JobStands, Stands, IsSame, ins, outs, came_in, gone_into}
 use Rattle.engine_model.specs.Events.{JobIsLeft, IsLeftBy, AnyOrder, came_of, state_of, after_orders}
 use Rattle.engine_model.specs.Laws.{OrdersGiveAnswers}
 use Rattle.engine_model.proofs.OrderLaws.{one_thread, some_order}
@@ -63,10 +63,10 @@ module _ (e e' : Parts) (n : ℕ) (input output : List ℤ) (h : History) (sound
         → (after_orders e input h (one_thread n e.plan.waves)).kept v ≡ kept_at e.graph (positions e.plan) x (T + n) v
     kept_is v live =
         block_runs e.graph e.plan sound c (positions e.plan) (frame_in (ins e) input) x T n brings
-          (one_thread n e.plan.waves) (state_of e h) (some_order n e.plan.waves (schedule e.graph e.plan sound c).rising)
-          (λ u on. let m = there u on in
-            subst (λ k. (state_of e k).kept u ≡ kept_at e.graph (positions e.plan) x T u) at (state_by_time e.graph (positions e.plan) (depth e.graph) ranked l x T u m.0 m.1 on))
-          v live
+        (one_thread n e.plan.waves) (state_of e h) (some_order n e.plan.waves (schedule e.graph e.plan sound c).rising)
+        (λ u on. let m = there u on in
+        subst (λ k. (state_of e k).kept u ≡ kept_at e.graph (positions e.plan) x T u) at (state_by_time e.graph (positions e.plan) (depth e.graph) ranked l x T u m.0 m.1 on))
+        v live
 
     to_history : (v : ℕ) (m : Node) → node_named e.graph v ≡ Some m → is_live e.graph v ≡ true
         → (after_orders e input h (one_thread n e.plan.waves)).kept v ≡ (state_of e (before x (T + n))).kept v
@@ -80,7 +80,7 @@ module _ (e e' : Parts) (n : ℕ) (input output : List ℤ) (h : History) (sound
         record {
           kernel = λ k named i o. subst (λ z. StandsFor k.kind j.kernel z)
               (ap (λ (z : Kept). z.came) is ∙ ap (λ z. came_of e.graph (positions e.plan) (before x (T + n)) z j.node) named
-               ∙ cond-false (is_input k.kind) (before x (T + n)) (came_in e.graph (positions e.plan) (before x (T + n)) j.node) i)
+              ∙ cond-false (is_input k.kind) (before x (T + n)) (came_in e.graph (positions e.plan) (before x (T + n)) j.node) i)
               (left.kernel k named i o);
           lines = left.lines ∙ ap (λ (z : Kept). windows_on (delays_into e.graph (positions e.plan) j.node) z.passed) is
               ∙ windows_are e.graph (positions e.plan) (gone_into e.graph (positions e.plan) (before x (T + n))) (connections_into e.graph j.node);
@@ -106,25 +106,28 @@ module _ (e e' : Parts) (n : ℕ) (input output : List ℤ) (h : History) (sound
         let has : Contains (map (λ (j : Job). j.node) e'.jobs) (get_or e'.jobs k d).node = Contains-map (λ (j : Job). j.node) e'.jobs (get_or e'.jobs k d) (Contains-get_or e'.jobs k d lt) in
         let there = subst (λ vs. Contains vs (get_or e'.jobs k d).node) (nodes ∙ stands.nodes) has in
         (filter_from (is_live e.graph) (map (λ m. m.uid.0) e.graph.nodes) (get_or e'.jobs k d).node
-          (Contains-permutation (flat_map names e.plan.waves) (live_nodes e.graph) (get_or e'.jobs k d).node
-            (IsPermutation-sym (live_nodes e.graph) (flat_map names e.plan.waves) (schedule e.graph e.plan sound c).once) there)).1
+        (Contains-permutation (flat_map names e.plan.waves) (live_nodes e.graph) (get_or e'.jobs k d).node
+        (IsPermutation-sym (live_nodes e.graph) (flat_map names e.plan.waves) (schedule e.graph e.plan sound c).once) there)).1
 
     both : Stands e' (before x (T + n)) × (frames_of (outs e) output ≡ take n (answer e.graph (before x (T + n))))
-    both = (record {
+    both = (
+      record {
         frames = more ∙ ap (λ k. k + n) (stands.frames ∙ ap length (sym at) ∙ length-before x T) ∙ sym (length-before x (T + n));
         nodes = nodes ∙ stands.nodes ∙ ap (λ (q : Plan). flat_map names q.waves) (sym same.plan);
         jobs = λ k d lt.
-          let j = get_or e'.jobs k d in
-          subst (λ g. JobStands g (positions e'.plan) (before x (T + n)) (get_or e'.jobs k d)) (sym same.graph)
-          (subst (λ (q : Plan). JobStands e.graph (positions q) (before x (T + n)) (get_or e'.jobs k d)) (sym same.plan)
+            let j = get_or e'.jobs k d in
+            subst (λ g. JobStands g (positions e'.plan) (before x (T + n)) (get_or e'.jobs k d)) (sym same.graph)
+            (subst (λ (q : Plan). JobStands e.graph (positions q) (before x (T + n)) (get_or e'.jobs k d)) (sym same.plan)
             (job_stands (get_or e'.jobs k d) (nodes_live k d lt)
-              (subst (λ (q : Plan). JobIsLeft e.graph (positions q) ((after_orders e input h (one_thread n e.plan.waves)).kept (get_or e'.jobs k d).node) (get_or e'.jobs k d)) same.plan
-              (subst (λ g. JobIsLeft g (positions e'.plan) ((after_orders e input h (one_thread n e.plan.waves)).kept (get_or e'.jobs k d).node) (get_or e'.jobs k d)) same.graph
-                (left.jobs k d lt)))));
-      }, output_is)
+            (subst (λ (q : Plan). JobIsLeft e.graph (positions q) ((after_orders e input h (one_thread n e.plan.waves)).kept (get_or e'.jobs k d).node) (get_or e'.jobs k d)) same.plan
+            (subst (λ g. JobIsLeft g (positions e'.plan) ((after_orders e input h (one_thread n e.plan.waves)).kept (get_or e'.jobs k d).node) (get_or e'.jobs k d)) same.graph
+            (left.jobs k d lt)))));
+      },
+      output_is,
+    )
 
 pub orders_give : OrdersGiveAnswers
 orders_give e e' n input output h sound c same li nodes more stands any =
     let r = after_histories (λ k. k ≡ h) (λ k. Stands e' k × (frames_of (outs e) output ≡ take n (answer e.graph k))) (ins e) n input (input_some e.graph sound) li
-        (λ x T at brings. both e e' n input output h sound c same li nodes more stands any x T at (λ k lt. sym (brings k lt))) h refl in
+    (λ x T at brings. both e e' n input output h sound c same li nodes more stands any x T at (λ k lt. sym (brings k lt))) h refl in
     (r.0, r.1 ∙ ap (λ k. take k (answer e.graph (frames_of (ins e) input ++ h))) (sym (length-frames_of (ins e) n input (input_some e.graph sound) li)))

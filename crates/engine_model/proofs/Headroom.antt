@@ -1,5 +1,5 @@
 -- No sum that a node takes, nor a part of it, is too large; no line is too long.
-use Rattle.std.proofs.Common.{◌≡◌, ℕ, zero, suc, ◌+◌, ◌-◌, ◌<◌, ◌≤◌, ◌==◌, ◌&&◌, Bool, true, false, cond, ltb, List, [], ◌∷◌, length, map, take, get_or, ℤ, pos, refl, sym, ap, ◌∙◌, subst, arith}
+use Rattle.std.proofs.Common.{◌≡◌, ℕ, zero, suc, ◌+◌, ◌-◌, ◌≤◌, ◌==◌, ◌&&◌, Bool, true, false, cond, ltb, List, [], ◌∷◌, length, map, take, get_or, ℤ, pos, refl, sym, ap, ◌∙◌, subst, arith}
 use Rattle.std.specs.Prelude.{◌+ℤ◌, ◌^◌, unsigned_abs, sum_by, if◌then◌else◌}
 use Rattle.std.specs.List.{filter}
 use Rattle.std.proofs.lemmas.Bool.{cond-true, cond-false, lt-ltb, le-ltb}
@@ -70,19 +70,19 @@ part_bounded d (suc m) (c ∷ chs) (y ∷ ys) (b ∷ bs) h =
 
 -- the weights on a channel are its headroom bound
 left : (f : Connection → ℕ) (c : Connection) (kept : List Connection) (r : ℕ) (a b : Bool) → sum_by f kept ≡ r
-  → sum_by f (cond (a && b) (c ∷ kept) kept) ≡ cond a (cond b (f c) 0 + r) r
+    → sum_by f (cond (a && b) (c ∷ kept) kept) ≡ cond a (cond b (f c) 0 + r) r
 left f c kept r true true e = sum_by-cons f c kept ∙ ap (λ k. f c + k) e
 left f c kept r true false e = let z : r ≡ 0 + r = omega arith in e ∙ z
 left f c kept r false b e = e
 
 right : (f : Connection → ℕ) (d : ℕ) (c : Connection) (into : List Connection) (a : Bool)
-  → weight_on d (map (λ e. e.dst_channel) (cond a (c ∷ into) into)) (map f (cond a (c ∷ into) into))
+    → weight_on d (map (λ e. e.dst_channel) (cond a (c ∷ into) into)) (map f (cond a (c ∷ into) into))
     ≡ cond a (cond (c.dst_channel == d) (f c) 0 + weight_on d (map (λ e. e.dst_channel) into) (map f into)) (weight_on d (map (λ e. e.dst_channel) into) (map f into))
 right f d c into true = refl
 right f d c into false = refl
 
 weight_over : (f : Connection → ℕ) (v d : ℕ) (cs : List Connection)
-  → weight_on d (map (λ c. c.dst_channel) (filter (λ c. c.dst.0 == v) cs)) (map f (filter (λ c. c.dst.0 == v) cs))
+    → weight_on d (map (λ c. c.dst_channel) (filter (λ c. c.dst.0 == v) cs)) (map f (filter (λ c. c.dst.0 == v) cs))
     ≡ sum_by f (filter (λ c. (c.dst.0 == v) && (c.dst_channel == d)) cs)
 weight_over f v d [] = refl
 weight_over f v d (c ∷ cs) =
@@ -93,20 +93,20 @@ weight_over f v d (c ∷ cs) =
 input_before : (g : Graph) (x : ℕ → Frame) (j n : ℕ) → IsInputFor g (before x (j + n)) → IsInputFor g (before x n)
 input_before g x j n input v m named is c k =
     subst (λ y. unsigned_abs y ≤ get_or (out_bounds m.kind []) c 0)
-      (sym (sample-drop j (before x (j + n)) c k) ∙ ap (λ h. sample h c k) (drop-before x j n))
-      (input v m named is c (k + j))
+    (sym (sample-drop j (before x (j + n)) c k) ∙ ap (λ h. sample h c k) (drop-before x j n))
+    (input v m named is c (k + j))
 
 -- what a connection gives is within its bound
 tap_bounded : (g : Graph) (p : ℕ → ℕ) (x : ℕ → Frame) (t : ℕ) → IsInputFor g (before x (t + 1)) → (c : Connection) → unsigned_abs (tap g p (out_at g p x) c t) ≤ bound_of g c
 tap_bounded g p x t input c =
     let d = delay g p c in
     by_lt t (delay g p c)
-      (λ past. subst (λ y. unsigned_abs y ≤ bound_of g c) (sym (cond-true (ltb t (delay g p c)) (pos 0) (on (out_at g p x c.src.0) c.src_channel (t - delay g p c)) (lt-ltb t (delay g p c) past))) (omega arith))
-      (λ in_time.
-        let all : t + 1 ≡ delay g p c + suc (t - delay g p c) = omega arith in
-        let first = input_before g x (delay g p c) (suc (t - delay g p c)) (subst (λ n. IsInputFor g (before x n)) all input) in
-        subst (λ y. unsigned_abs y ≤ bound_of g c) (sym (cond-false (ltb t (delay g p c)) (pos 0) (on (out_at g p x c.src.0) c.src_channel (t - delay g p c)) (le-ltb t (delay g p c) in_time)))
-          ((samples_are_bounded g p (before x (suc (t - delay g p c))) first c.src.0).1 c.src_channel 0))
+    (λ past. subst (λ y. unsigned_abs y ≤ bound_of g c) (sym (cond-true (ltb t (delay g p c)) (pos 0) (on (out_at g p x c.src.0) c.src_channel (t - delay g p c)) (lt-ltb t (delay g p c) past))) (omega arith))
+    (λ in_time.
+    let all : t + 1 ≡ delay g p c + suc (t - delay g p c) = omega arith in
+    let first = input_before g x (delay g p c) (suc (t - delay g p c)) (subst (λ n. IsInputFor g (before x n)) all input) in
+    subst (λ y. unsigned_abs y ≤ bound_of g c) (sym (cond-false (ltb t (delay g p c)) (pos 0) (on (out_at g p x c.src.0) c.src_channel (t - delay g p c)) (le-ltb t (delay g p c) in_time)))
+    ((samples_are_bounded g p (before x (suc (t - delay g p c))) first c.src.0).1 c.src_channel 0))
 
 each_bounded : (f : Connection → ℤ) (b : Connection → ℕ) (cs : List Connection) → ((c : Connection) → unsigned_abs (f c) ≤ b c) → (i : ℕ) → unsigned_abs (get_or (map f cs) i (pos 0)) ≤ get_or (map b cs) i 0
 each_bounded f b [] h i = omega arith
@@ -116,10 +116,10 @@ each_bounded f b (c ∷ cs) h (suc i) = each_bounded f b cs h i
 pub sums_are_bounded : SumsAreBounded
 sums_are_bounded g p x v d m t input lt =
     let part = part_bounded d m (channels_into g v) (map (λ c. tap g p (out_at g p x) c t) (connections_into g v)) (map (bound_of g) (connections_into g v))
-          (each_bounded (λ c. tap g p (out_at g p x) c t) (bound_of g) (connections_into g v) (tap_bounded g p x t input)) in
+    (each_bounded (λ c. tap g p (out_at g p x) c t) (bound_of g) (connections_into g v) (tap_bounded g p x t input)) in
     let whole = weight_over (bound_of g) v d g.connections in
     let at : get_or (bounds g v).ins d 0 ≡ sum_by (bound_of g) (connections_to g v d)
-      = get_or-map-range_with_len (λ k. sum_by (λ c. get_or (bounds_within g (length g.nodes) c.src.0) c.src_channel 0) (connections_to g v k)) 0 (ins_at g v) d d 0 lt (omega arith) in
+    = get_or-map-range_with_len (λ k. sum_by (λ c. get_or (bounds_within g (length g.nodes) c.src.0) c.src_channel 0) (connections_to g v k)) 0 (ins_at g v) d d 0 lt (omega arith) in
     omega arith
 
 -- ---- lines

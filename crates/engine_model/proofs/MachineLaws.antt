@@ -1,10 +1,10 @@
 -- An event takes a node from one time to the next.
-use Rattle.std.proofs.Common.{◌≡◌, ℕ, zero, suc, ◌+◌, ◌-◌, ◌<◌, ◌≤◌, List, [], ◌∷◌, length, map, get_or, ℤ, pos, refl, sym, ap, ◌∙◌, subst, arith, true, false, Some, None, Option, Bool, cond, ◌==◌}
+use Rattle.std.proofs.Common.{◌≡◌, ℕ, zero, suc, ◌+◌, ◌<◌, ◌≤◌, List, [], ◌∷◌, map, ℤ, refl, sym, ap, ◌∙◌, arith, true, false, Some, None, Option, cond}
 use Rattle.std.specs.List.{range_with_len}
-use Rattle.graph_model.specs.Histories.{Frame, History, channel, ago, before, newest}
+use Rattle.graph_model.specs.Histories.{Frame, channel, before, newest}
 use Rattle.graph_model.specs.Kinds.{rule_of}
-use Rattle.graph_model.specs.Graphs.{IsRanked, node_named, is_input, ins_at, connections_to, connections_into}
-use Rattle.graph_model.specs.Answers.{delay, sum_of}
+use Rattle.graph_model.specs.Graphs.{IsRanked, node_named, is_input, ins_at, connections_into}
+use Rattle.graph_model.specs.Answers.{delay}
 use Rattle.graph_model.specs.declared.graph.Node.{Node}
 use Rattle.graph_model.specs.declared.graph.Connection.{Connection}
 use Rattle.graph_model.specs.declared.graph.Graph.{Graph}
@@ -22,7 +22,7 @@ into_lines f h [] = refl
 into_lines f h (c ∷ cs) = ap (λ ls. (f c ∷ h c) ∷ ls) (into_lines f h cs)
 
 pub out_of_lines : (g : Graph) (p : ℕ → ℕ) (x : ℕ → Frame) (t : ℕ) (cs : List Connection)
-  → taps (map (λ c. delay g p c) cs) (map (λ c. channel c.src_channel (before (out_at g p x c.src.0) (suc t))) cs) ≡ map (λ c. tap g p (out_at g p x) c t) cs
+    → taps (map (λ c. delay g p c) cs) (map (λ c. channel c.src_channel (before (out_at g p x c.src.0) (suc t))) cs) ≡ map (λ c. tap g p (out_at g p x) c t) cs
 out_of_lines g p x t [] = refl
 out_of_lines g p x t (c ∷ cs) =
     ap (λ z. z ∷ taps (map (λ c. delay g p c) cs) (map (λ e. channel e.src_channel (before (out_at g p x e.src.0) (suc t))) cs)) (shown (out_at g p x c.src.0) c.src_channel (delay g p c) t)
@@ -35,38 +35,37 @@ sums g p x t v =
 
 -- the frame that a node takes is that of time t
 takes : (g : Graph) (p : ℕ → ℕ) (x block : ℕ → Frame) (t k v : ℕ) (o : Option Node) → block k ≡ x t
-  → taken g p block v k o (map (λ c. channel c.src_channel (before (out_at g p x c.src.0) (suc t))) (connections_into g v)) ≡ came_at g p x o v t
+    → taken g p block v k o (map (λ c. channel c.src_channel (before (out_at g p x c.src.0) (suc t))) (connections_into g v)) ≡ came_at g p x o v t
 takes g p x block t k v None comes = refl
 takes g p x block t k v (Some n) comes =
     elim (is_input n.kind) as (λ b. cond b (block k) (summed (ins_at g v) (channels_into g v) (delays_into g p v) (map (λ c. channel c.src_channel (before (out_at g p x c.src.0) (suc t))) (connections_into g v))) ≡ cond b (x t) (in_at g p x v t))
-        [ true ↦ comes | false ↦ sums g p x t v ]
+    [ true ↦ comes | false ↦ sums g p x t v ]
 
 -- an event of v whose samples are those of time t
 pub machine_step : (g : Graph) (p : ℕ → ℕ) (x block : ℕ → Frame) (t k v : ℕ) → block k ≡ x t
-  → takes_in g p block v k (kept_at g p x t v) (passed_then (map (λ c. on (out_at g p x c.src.0) c.src_channel t) (connections_into g v)) (kept_at g p x t v).passed)
+    → takes_in g p block v k (kept_at g p x t v) (passed_then (map (λ c. on (out_at g p x c.src.0) c.src_channel t) (connections_into g v)) (kept_at g p x t v).passed)
     ≡ kept_at g p x (suc t) v
 machine_step g p x block t k v comes =
     let into = into_lines (λ c. on (out_at g p x c.src.0) c.src_channel t) (λ c. channel c.src_channel (before (out_at g p x c.src.0) t)) (connections_into g v) in
     ap (λ zs. takes_in g p block v k (kept_at g p x t v) zs) into
     ∙ ap (λ f. record { came = f ∷ before (came_at g p x (node_named g v) v) t; passed = map (λ c. channel c.src_channel (before (out_at g p x c.src.0) (suc t))) (connections_into g v) })
-      (takes g p x block t k v (node_named g v) comes)
+    (takes g p x block t k v (node_named g v) comes)
 
 -- and the frame that it gives then
 pub machine_gives : (g : Graph) (p rank : ℕ → ℕ) (x : ℕ → Frame) (t v : ℕ) → IsRanked rank g → (n : Node) → node_named g v ≡ Some n
-  → made (node_named g v) (kept_at g p x (suc t) v).came ≡ out_at g p x v t
+    → made (node_named g v) (kept_at g p x (suc t) v).came ≡ out_at g p x v t
 machine_gives g p rank x t v ranked n named =
     let are = streams_are g p rank x ranked in
     ap (λ o. made o (before (came_at g p x o v) (suc t))) named
     ∙ elim (is_input n.kind) as (λ b. is_input n.kind ≡ b →
-        cond b (newest (before (λ s. cond b (x s) (in_at g p x v s)) (suc t))) (rule_of n.kind (before (λ s. cond b (x s) (in_at g p x v s)) (suc t))) ≡ out_at g p x v t)
-      [ true ↦ λ e. sym (are.entry v t n named e) | false ↦ λ e. sym (are.gives v t n named e) ] refl
+    cond b (newest (before (λ s. cond b (x s) (in_at g p x v s)) (suc t))) (rule_of n.kind (before (λ s. cond b (x s) (in_at g p x v s)) (suc t))) ≡ out_at g p x v t)
+    [ true ↦ λ e. sym (are.entry v t n named e) | false ↦ λ e. sym (are.gives v t n named e) ] refl
 
 module _ (g : Graph) (p rank : ℕ → ℕ) (homes : List Home) (x block : ℕ → Frame) (T n v : ℕ) (start : core.State Kept)
     (ranked : IsRanked rank g)
     (brings : (k : ℕ) → k < n → block k ≡ x (T + k))
     (at : start.kept v ≡ kept_at g p x T v)
     (has : (k : ℕ) → k < n → core.samples_of (sources g homes v) k start.pool ≡ map (λ c. on (out_at g p x c.src.0) c.src_channel (T + k)) (connections_into g v)) where
-
   -- after k of its events
   pub local_is : (k : ℕ) → k ≤ n → core.kept_after (machine g p homes block) start v k ≡ kept_at g p x (T + k) v
   local_is zero le = let e : T ≡ T + 0 = omega arith in at ∙ ap (λ t. kept_at g p x t v) e

@@ -1,5 +1,5 @@
 -- A new job stands for no frames.
-use Rattle.std.proofs.Common.{◌≡◌, ℕ, zero, suc, ◌-◌, ◌≤◌, min, List, [], ◌∷◌, length, map, take, replicate, pos, refl, sym, ap, ◌∙◌, subst, arith}
+use Rattle.std.proofs.Common.{◌≡◌, ℕ, zero, suc, ◌-◌, ◌≤◌, min, [], ◌∷◌, length, take, replicate, pos, refl, sym, ap, ◌∙◌, subst, arith}
 use Rattle.graph_model.specs.Histories.{History, channel, window, shifted, silence}
 use Rattle.graph_model.specs.Graphs.{ins_at, outs_at, connections_into}
 use Rattle.graph_model.specs.Paths.{reach}

@@ -1,5 +1,5 @@
 -- The orders of a block of a certified plan: there is one, and none shows.
-use Rattle.std.proofs.Common.{◌≡◌, ℕ, false, List, [], ◌∷◌, map, refl}
+use Rattle.std.proofs.Common.{ℕ, List, [], ◌∷◌, map, refl}
 use Rattle.std.specs.List.{All}
 use Rattle.std.specs.List.Sorted.{IsStrictlyIncreasing}
 use Rattle.std.proofs.lemmas.Bool.{false_from_ne_true}
@@ -26,9 +26,10 @@ one_thread n waves = map (λ w. core.in_turn n (names w)) waves
 
 pub some_order : (n : ℕ) (waves : List Wave) → All (λ w. IsStrictlyIncreasing (names w)) waves → core.AreOrdersOf n (map names waves) (one_thread n waves)
 some_order n [] up = tt
-some_order n (w ∷ ws) up =
-    (order_exists n (names w) (distinct (names w) (differ_rising (names w) (All-head (λ w. IsStrictlyIncreasing (names w)) w ws up))),
-     some_order n ws (All-tail (λ w. IsStrictlyIncreasing (names w)) w ws up))
+some_order n (w ∷ ws) up = (
+  order_exists n (names w) (distinct (names w) (differ_rising (names w) (All-head (λ w. IsStrictlyIncreasing (names w)) w ws up))),
+  some_order n ws (All-tail (λ w. IsStrictlyIncreasing (names w)) w ws up),
+)
 
 pub blocks_run : BlocksRun
 blocks_run g plan x block T n orders s sound c brings o at v on = block_runs g plan sound c (positions plan) block x T n brings orders s o at v on

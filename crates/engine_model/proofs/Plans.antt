@@ -1,7 +1,7 @@
 -- What a certified plan says of waves and buffers.
-use Rattle.std.proofs.Common.{◌≡◌, ℕ, suc, ◌<◌, ◌≤◌, ◌==◌, ◌&&◌, ◌||◌, ◌⊎◌, ⊎_elim, Bool, true, false, cond, List, [], ◌∷◌, length, map, take, inl, inr, refl, ap, sym, ◌∙◌, subst, arith, Some}
+use Rattle.std.proofs.Common.{◌≡◌, ℕ, suc, ◌<◌, ◌≤◌, ◌==◌, ◌&&◌, ◌||◌, ◌⊎◌, ⊎_elim, Bool, true, false, cond, List, [], ◌∷◌, length, take, inl, inr, refl, ap, sym, ◌∙◌, subst, arith, Some}
 use Rattle.std.specs.Prelude.{slice_get, AllPairs}
-use Rattle.std.specs.List.{All, Contains, filter, find, flat_map}
+use Rattle.std.specs.List.{All, Contains, find, flat_map}
 use Rattle.std.proofs.lemmas.Bool.{eqb-true, cases_lt, and_parts}
 use Rattle.std.proofs.lemmas.List.Elements.{All-contains}
 use Rattle.std.proofs.lemmas.Option.{slice_get_within}
@@ -103,18 +103,18 @@ module _ (g : Graph) (plan : Plan) (sound : IsSound g) (c : IsCertified g plan) 
   pub shares : (h i : Home) → Contains plan.homes h → Contains plan.homes i → h.buffer ≡ i.buffer → (h ≡ i) ⊎ MayShare (life h) (life i)
   shares h i ch ci e =
       ⊎_elim
-        (λ same.
-          let u = ap (λ (x : Port). x.uid) same in
-          let d = ap (λ (x : Port). x.channel) same in
-          inl (λ k. record { uid = u k; channel = d k; buffer = e k }))
-        (λ r. inr r)
-        (buffers_are_apart g plan (port h) (port i) h.buffer c (buffer_is h ch) (buffer_is i ci ∙ ap Some (sym e)))
+      (λ same.
+      let u = ap (λ (x : Port). x.uid) same in
+      let d = ap (λ (x : Port). x.channel) same in
+      inl (λ k. record { uid = u k; channel = d k; buffer = e k }))
+      (λ r. inr r)
+      (buffers_are_apart g plan (port h) (port i) h.buffer c (buffer_is h ch) (buffer_is i ci ∙ ap Some (sym e)))
 
   pub lasting : (h : Home) → Contains plan.homes h → ((life h).born < (life h).dies) × ((life h).dies < length plan.waves)
   lasting h has =
       All-contains (λ (x : Life). (x.born < x.dies) × (x.dies < length plan.waves)) (lives_of g plan.waves (ports_of plan.homes)) (life h)
-        (are_lives g plan.waves (ports_of plan.homes) sound schedule values).within
-        (Contains-map (λ (x : Port). life_of g plan.waves x.uid x.channel) (ports_of plan.homes) (port h) (Contains-map (λ (k : Home). port k) plan.homes h has))
+      (are_lives g plan.waves (ports_of plan.homes) sound schedule values).within
+      (Contains-map (λ (x : Port). life_of g plan.waves x.uid x.channel) (ports_of plan.homes) (port h) (Contains-map (λ (k : Home). port k) plan.homes h has))
 
   pub below : (h : Home) → Contains plan.homes h → h.buffer < plan.channels
   below h has = All-contains (λ (k : Home). k.buffer < plan.channels) plan.homes h assignment.below has
@@ -123,32 +123,33 @@ module _ (g : Graph) (plan : Plan) (sound : IsSound g) (c : IsCertified g plan) 
   pub home_for : (e : Connection) → Contains (live_connections g) e → (h : Home) × Contains plan.homes h × (h.uid ≡ e.src) × (h.channel ≡ e.src_channel)
   home_for e live =
       let r = Contains-from_map (λ (k : Home). port k) plan.homes (source e)
-            (All-contains (λ d. Contains (ports_of plan.homes) (source d)) (live_connections g) e values.all live) in
+      (All-contains (λ d. Contains (ports_of plan.homes) (source d)) (live_connections g) e values.all live) in
       (r.0, r.1, ap (λ (x : Port). x.uid) r.2, ap (λ (x : Port). x.channel) r.2)
 
   is_reader_of : (e : Connection) (h : Home) → Contains (live_connections g) e → h.uid ≡ e.src → h.channel ≡ e.src_channel → Contains (reads_of g h.uid h.channel) e
   is_reader_of e h live u d =
       filter_has (λ b. (b.src.0 == h.uid.0) && (b.src_channel == h.channel)) (live_connections g) e live
-        (and_both _ _ (ap (λ (w : Uid). e.src.0 == w.0) u ∙ same_name e.src.0) (ap (λ k. e.src_channel == k) d ∙ same_name e.src_channel))
+      (and_both _ _ (ap (λ (w : Uid). e.src.0 == w.0) u ∙ same_name e.src.0) (ap (λ k. e.src_channel == k) d ∙ same_name e.src_channel))
 
   is_life : (e : Connection) (h : Home) → Contains (live_connections g) e → h.uid ≡ e.src → h.channel ≡ e.src_channel → IsLife g plan.waves (life h)
   is_life e h live u d = found_is_life g plan.waves h.uid h.channel e (is_reader_of e h live u d)
 
   -- it is read after the wave in which it is born, and not after that in which it dies
   pub read_within : (e : Connection) (h : Home) → Contains (live_connections g) e → h.uid ≡ e.src → h.channel ≡ e.src_channel
-    → ((life h).born < wave_of plan.waves e.dst.0) × (wave_of plan.waves e.dst.0 ≤ (life h).dies)
+      → ((life h).born < wave_of plan.waves e.dst.0) × (wave_of plan.waves e.dst.0 ≤ (life h).dies)
   read_within e h live u d =
       let later = All-contains (λ b. wave_of plan.waves b.src.0 < wave_of plan.waves b.dst.0) (live_connections g) e schedule.later live in
-      let born : wave_of plan.waves h.uid.0 ≡ wave_of plan.waves e.src.0 = ap (λ (w : Uid). wave_of plan.waves w.0) u in
-      (omega arith,
-       All-contains (λ b. wave_of plan.waves b.dst.0 ≤ (life h).dies) (reads_of g h.uid h.channel) e (is_life e h live u d).none_later (is_reader_of e h live u d))
+      let born : wave_of plan.waves h.uid.0 ≡ wave_of plan.waves e.src.0 = ap (λ (w : Uid). wave_of plan.waves w.0) u in (
+        omega arith,
+        All-contains (λ b. wave_of plan.waves b.dst.0 ≤ (life h).dies) (reads_of g h.uid h.channel) e (is_life e h live u d).none_later (is_reader_of e h live u d),
+      )
 
   -- where it dies the sole reader alone reads it
   pub sole_reads : (e : Connection) (h : Home) (u : Uid) → Contains (live_connections g) e → h.uid ≡ e.src → h.channel ≡ e.src_channel
-    → (life h).reader ≡ Some u → wave_of plan.waves e.dst.0 ≡ (life h).dies → e.dst.0 ≡ u.0
+      → (life h).reader ≡ Some u → wave_of plan.waves e.dst.0 ≡ (life h).dies → e.dst.0 ≡ u.0
   sole_reads e h u live a b only at =
       ap (λ (w : Uid). w.0)
-        (All-contains (λ d. wave_of plan.waves d.dst.0 ≡ (life h).dies → d.dst ≡ u) (reads_of g h.uid h.channel) e ((is_life e h live a b).only u only) (is_reader_of e h live a b) at)
+      (All-contains (λ d. wave_of plan.waves d.dst.0 ≡ (life h).dies → d.dst ≡ u) (reads_of g h.uid h.channel) e ((is_life e h live a b).only u only) (is_reader_of e h live a b) at)
 
   -- ---- three laws on sharing
   -- two values of one wave have two buffers
@@ -160,7 +161,7 @@ module _ (g : Graph) (plan : Plan) (sound : IsSound g) (c : IsCertified g plan) 
 
   -- what a node reads is written over in that wave by itself alone
   pub read_apart : (e : Connection) (h i : Home) → Contains (live_connections g) e → Contains plan.homes h → h.uid ≡ e.src → h.channel ≡ e.src_channel
-    → Contains plan.homes i → h.buffer ≡ i.buffer → wave_of plan.waves i.uid.0 ≡ wave_of plan.waves e.dst.0 → i.uid.0 ≡ e.dst.0
+      → Contains plan.homes i → h.buffer ≡ i.buffer → wave_of plan.waves i.uid.0 ≡ wave_of plan.waves e.dst.0 → i.uid.0 ≡ e.dst.0
   read_apart e h i live ch a b ci same at =
       let lh = (lasting h ch).0 in
       let li = (lasting i ci).0 in
@@ -168,37 +169,37 @@ module _ (g : Graph) (plan : Plan) (sound : IsSound g) (c : IsCertified g plan) 
       let r0 = r.0 in
       let r1 = r.1 in
       ⊎_elim
-        (λ z. let w = ap (λ (k : Home). wave_of plan.waves k.uid.0) z in absurd (omega arith))
-        (⊎_elim
-          (⊎_elim (λ lt. absurd (omega arith)) (λ q. let q0 = q.0 in sym (sole_reads e h i.uid live a b q.1 (omega arith))))
-          (⊎_elim (λ lt. absurd (omega arith)) (λ q. let q0 = q.0 in absurd (omega arith))))
-        (shares h i ch ci same)
+      (λ z. let w = ap (λ (k : Home). wave_of plan.waves k.uid.0) z in absurd (omega arith))
+      (⊎_elim
+      (⊎_elim (λ lt. absurd (omega arith)) (λ q. let q0 = q.0 in sym (sole_reads e h i.uid live a b q.1 (omega arith))))
+      (⊎_elim (λ lt. absurd (omega arith)) (λ q. let q0 = q.0 in absurd (omega arith))))
+      (shares h i ch ci same)
 
   -- what is needed after a wave, and was not born in it, is not written over there
   pub kept_apart : (s : ℕ) (h i : Home) → Contains plan.homes h → Contains plan.homes i → wave_of plan.waves h.uid.0 < s → s < (life h).dies
-    → h.buffer ≡ i.buffer → wave_of plan.waves i.uid.0 ≡ s → ⊥
+      → h.buffer ≡ i.buffer → wave_of plan.waves i.uid.0 ≡ s → ⊥
   kept_apart s h i ch ci born dies same at =
       let li = (lasting i ci).0 in
       ⊎_elim
-        (λ z. let w = ap (λ (k : Home). wave_of plan.waves k.uid.0) z in omega arith)
-        (⊎_elim
-          (⊎_elim (λ lt. omega arith) (λ q. let q0 = q.0 in omega arith))
-          (⊎_elim (λ lt. omega arith) (λ q. let q0 = q.0 in omega arith)))
-        (shares h i ch ci same)
+      (λ z. let w = ap (λ (k : Home). wave_of plan.waves k.uid.0) z in omega arith)
+      (⊎_elim
+      (⊎_elim (λ lt. omega arith) (λ q. let q0 = q.0 in omega arith))
+      (⊎_elim (λ lt. omega arith) (λ q. let q0 = q.0 in omega arith)))
+      (shares h i ch ci same)
 
   -- ---- the nodes of a wave
   pub in_wave_at : (k v : ℕ) (w : Wave) → slice_get plan.waves k ≡ Some w → Contains (names w) v → wave_of plan.waves v ≡ k
   in_wave_at k v w at has =
       let le = not_before plan.waves k w v at has in
       ⊎_elim
-        (λ lt.
-          let entries : (j : ℕ) → IsWaveAt g plan.waves j = (waves_by_entries g plan.waves sound).1 schedule in
-          let within = slice_get_within plan.waves k w at in
-          let f = first_with plan.waves v (omega arith) in
-          absurd (All-contains (λ u. Contains (flat_map names (take k plan.waves)) u → ⊥) (names w) v ((entries k).next w at).fresh has
-            (in_earlier plan.waves (wave_of plan.waves v) k f.0 v f.1 lt f.2)))
-        (λ ge. omega arith)
-        (cases_lt (wave_of plan.waves v) k)
+      (λ lt.
+      let entries : (j : ℕ) → IsWaveAt g plan.waves j = (waves_by_entries g plan.waves sound).1 schedule in
+      let within = slice_get_within plan.waves k w at in
+      let f = first_with plan.waves v (omega arith) in
+      absurd (All-contains (λ u. Contains (flat_map names (take k plan.waves)) u → ⊥) (names w) v ((entries k).next w at).fresh has
+      (in_earlier plan.waves (wave_of plan.waves v) k f.0 v f.1 lt f.2)))
+      (λ ge. omega arith)
+      (cases_lt (wave_of plan.waves v) k)
 
   pub of_wave_at : (k v : ℕ) (w : Wave) → slice_get plan.waves k ≡ Some w → wave_of plan.waves v ≡ k → Contains (names w) v
   of_wave_at k v w at is =

@@ -1,13 +1,12 @@
 -- All waves of a block, in any orders, take the nodes of a graph from one time to a later one.
-use Rattle.std.proofs.Common.{◌≡◌, ℕ, zero, suc, ◌+◌, ◌-◌, ◌<◌, ◌≤◌, ◌==◌, ◌||◌, ◌⊎◌, Bool, true, false, cond, List, [], ◌∷◌, length, map, drop, get_or, ℤ, pos, inl, inr, refl, ap, sym, ◌∙◌, subst, arith, Option, Some, None, ⊎_elim}
+use Rattle.std.proofs.Common.{◌≡◌, ℕ, zero, suc, ◌+◌, ◌<◌, ◌≤◌, ◌==◌, ◌||◌, Bool, true, false, cond, List, [], ◌∷◌, length, map, drop, ℤ, pos, inl, inr, refl, ap, sym, ◌∙◌, subst, arith, Some}
 use Rattle.std.specs.Prelude.{slice_get, slice_index_or}
 use Rattle.std.specs.List.{Contains, filter, find, flat_map}
 use Rattle.std.proofs.lemmas.List.Sorted.{Contains-permutation}
 use Rattle.plan_model.proofs.CertifiedLaws.{stands_in}
-use Rattle.std.specs.Option.{is_some}
-use Rattle.std.proofs.lemmas.Bool.{eqb-true, eqb-false, cases_Bool, cases_lt, or_cases, or_left, or_right, cond-true, cond-false, eq-eqb, false_from_ne_true}
+use Rattle.std.proofs.lemmas.Bool.{eqb-true, cases_Bool, cases_lt, or_left, or_right, cond-true, cond-false, false_from_ne_true}
 use Rattle.graph_model.specs.Histories.{Frame}
-use Rattle.graph_model.specs.Graphs.{IsRanked, IsNode, node_named, connections_into}
+use Rattle.graph_model.specs.Graphs.{IsRanked, node_named, connections_into}
 use Rattle.graph_model.specs.Paths.{is_live, live_nodes, live_connections, depth}
 use Rattle.graph_model.specs.Sound.{IsSound}
 use Rattle.graph_model.specs.declared.graph.Node.{Node}
@@ -31,7 +30,7 @@ use Rattle.graph_model.specs.Streams.{on, out_at}
 use Rattle.engine_model.specs.Machines.{Kept, machine, sources, buffer_for, homes_at}
 use Rattle.engine_model.specs.States.{kept_at}
 use Rattle.engine_model.proofs.MachineLaws.{local_is, told_is}
-use Rattle.engine_model.proofs.Plans.{is_in_of, of_is_in, schedule, lasting, home_for, buffer_read, read_within, born_apart, read_apart, kept_apart, in_wave_at, of_wave_at, live_in_wave}
+use Rattle.engine_model.proofs.Plans.{is_in_of, of_is_in, schedule, home_for, buffer_read, read_within, born_apart, read_apart, kept_apart, in_wave_at, of_wave_at, live_in_wave}
 
 -- ---- what a node writes and reads
 -- the home of a node that has a buffer in which the node writes
@@ -74,15 +73,15 @@ pub value_of : (hs : List core.Home) (h : core.Home) (y : List ℤ) → Contains
 value_of [] h y has one = let l = has.1 in absurd (omega arith)
 value_of (i ∷ hs) h y has one =
     elim (cases_Bool (i.buffer == h.buffer)) [
-      inl t ↦
-        let same : i ≡ h = one i (0, omega arith, refl) (eqb-true i.buffer h.buffer t) in
-        cond-true (i.buffer == h.buffer) _ _ t ∙ ap (λ (k : core.Home). slice_index_or y k.channel (pos 0)) same
-    | inr f ↦
-        cond-false (i.buffer == h.buffer) _ _ f
-        ∙ elim (first_or_later i h hs has) [
-          | inl same ↦ (let t : (i.buffer == h.buffer) ≡ true = ap (λ (k : core.Home). k.buffer == h.buffer) same ∙ same_name h.buffer in absurd (cc))
-          | inr there ↦ value_of hs h y there (λ k ck e. one k (at_tail i k hs ck) e)
-        ]
+      | inl t ↦
+          let same : i ≡ h = one i (0, omega arith, refl) (eqb-true i.buffer h.buffer t) in
+          cond-true (i.buffer == h.buffer) _ _ t ∙ ap (λ (k : core.Home). slice_index_or y k.channel (pos 0)) same
+      | inr f ↦
+          cond-false (i.buffer == h.buffer) _ _ f
+          ∙ elim (first_or_later i h hs has) [
+            | inl same ↦ (let t : (i.buffer == h.buffer) ≡ true = ap (λ (k : core.Home). k.buffer == h.buffer) same ∙ same_name h.buffer in absurd (cc))
+            | inr there ↦ value_of hs h y there (λ k ck e. one k (at_tail i k hs ck) e)
+          ]
     ]
 
 pub read_by : (g : Graph) (homes : List Home) (cs : List Connection) (b : ℕ) → core.is_read (map (λ c. buffer_for homes c) cs) b ≡ true
@@ -135,7 +134,7 @@ module _ (g : Graph) (plan : Plan) (sound : IsSound g) (c : IsCertified g plan) 
       let h = home_for g plan sound c e.0 live.0 in
       let buffer = buffer_read g plan sound c e.0 h.0 h.1 h.2 h.3 in
       sym hu.2 ∙ read_apart g plan sound c e.0 h.0 hu.0 live.0 h.1 h.2 h.3 hu.1 (sym buffer ∙ e.2 ∙ sym hu.3)
-        (ap (wave_of plan.waves) hu.2 ∙ wave_is k u w at iu ∙ sym (wave_is k v w at iv) ∙ ap (wave_of plan.waves) (sym live.1))
+      (ap (wave_of plan.waves) hu.2 ∙ wave_is k u w at iu ∙ sym (wave_is k v w at iv) ∙ ap (wave_of plan.waves) (sym live.1))
       ∙ live.1
 
   -- a node has one home with a buffer
@@ -146,7 +145,7 @@ module _ (g : Graph) (plan : Plan) (sound : IsSound g) (c : IsCertified g plan) 
       let f2 = Contains-from_map (λ (q : Home). at_home q) (filter (λ q. q.uid.0 == v) plan.homes) b cb in
       let q2 = filter_from (λ q. q.uid.0 == v) plan.homes f2.0 f2.1 in
       let one = born_apart g plan sound c f.0 f2.0 q.0 q2.0 (ap (λ (z : core.Home). z.buffer) f.2 ∙ e ∙ sym (ap (λ (z : core.Home). z.buffer) f2.2))
-            (ap (wave_of plan.waves) (eqb-true f.0.uid.0 v q.1 ∙ sym (eqb-true f2.0.uid.0 v q2.1))) in
+      (ap (wave_of plan.waves) (eqb-true f.0.uid.0 v q.1 ∙ sym (eqb-true f2.0.uid.0 v q2.1))) in
       sym f.2 ∙ ap (λ (z : Home). at_home z) one ∙ f2.2
 
   pub node_in : (k v : ℕ) (w : Wave) → slice_get plan.waves k ≡ Some w → core.is_in v (names w) ≡ true → (m : Node) × (node_named g v ≡ Some m)
@@ -156,13 +155,13 @@ module _ (g : Graph) (plan : Plan) (sound : IsSound g) (c : IsCertified g plan) 
   pub apart : (k : ℕ) (w : Wave) → slice_get plan.waves k ≡ Some w → core.IsApart (machine g p plan.homes block) (names w)
   apart k w at = record {
     no_write = λ u v b iu iv wu wv.
-      let hu = written_by plan.homes u b wu in
-      let hv = written_by plan.homes v b wv in
-      let same = born_apart g plan sound c hu.0 hv.0 hu.1 hv.1 (hu.3 ∙ sym hv.3)
+        let hu = written_by plan.homes u b wu in
+        let hv = written_by plan.homes v b wv in
+        let same = born_apart g plan sound c hu.0 hv.0 hu.1 hv.1 (hu.3 ∙ sym hv.3)
         (ap (wave_of plan.waves) hu.2 ∙ wave_is k u w at iu ∙ sym (wave_is k v w at iv) ∙ ap (wave_of plan.waves) (sym hv.2)) in
-      sym hu.2 ∙ ap (λ (h : Home). h.uid.0) same ∙ hv.2;
+        sym hu.2 ∙ ap (λ (h : Home). h.uid.0) same ∙ hv.2;
     reads_alone = λ v j q r iv same.
-      wires_read_alone (sources g plan.homes v) (λ u. homes_at plan.homes u) (names w) v j q r
+        wires_read_alone (sources g plan.homes v) (λ u. homes_at plan.homes u) (names w) v j q r
         (λ u b iu wu rv. read_alone k w at u v b iu iv wu rv)
         same;
   }
@@ -191,48 +190,48 @@ module _ (g : Graph) (plan : Plan) (sound : IsSound g) (c : IsCertified g plan) 
             let here = wave_is s v w at i in
             let there : wave_of plan.waves e.dst.0 ≡ wave_of plan.waves v = ap (wave_of plan.waves) live.1 in
             let first : st.pool (buffer_for plan.homes e) k ≡ on (out_at g p x e.src.0) e.src_channel (T + k) =
-                ap (λ a. st.pool a k) (buffer_read g plan sound c e h.0 h.1 h.2 h.3)
-                ∙ b.has h.0 h.1 (omega arith) (omega arith) k lt
-                ∙ ap (λ u. on (out_at g p x u.0) h.0.channel (T + k)) h.2 ∙ ap (λ d. on (out_at g p x e.src.0) d (T + k)) h.3 in
+            ap (λ a. st.pool a k) (buffer_read g plan sound c e h.0 h.1 h.2 h.3)
+            ∙ b.has h.0 h.1 (omega arith) (omega arith) k lt
+            ∙ ap (λ u. on (out_at g p x u.0) h.0.channel (T + k)) h.2 ∙ ap (λ d. on (out_at g p x e.src.0) d (T + k)) h.3 in
             let rest = through es (λ d has. within d (at_tail e d es has)) in
             cc
 
     pub next : (s : ℕ) (w : Wave) (st st' : core.State Kept) → slice_get plan.waves s ≡ Some w → IsBefore s st → core.WaveHasRun (machine g p plan.homes block) n (names w) st st' → IsBefore (suc s) st'
     next s w st st' at b run = record {
-        done = λ v on before.
+      done = λ v on before.
           elim (cases_Bool (core.is_in v (names w))) [
-            inl i ↦ run.kept v i ∙ local_is g p (depth g) plan.homes x block T n v st ranked brings (b.ahead v on (let e = wave_is s v w at i in omega arith)) (reads_right s w st at b v i) n (omega arith)
-          | inr f ↦ run.idle v f ∙ b.done v on (earlier v f before)
+            | inl i ↦ run.kept v i ∙ local_is g p (depth g) plan.homes x block T n v st ranked brings (b.ahead v on (let e = wave_is s v w at i in omega arith)) (reads_right s w st at b v i) n (omega arith)
+            | inr f ↦ run.idle v f ∙ b.done v on (earlier v f before)
           ];
-        ahead = λ v on after. run.idle v (false_from_ne_true (core.is_in v (names w)) (λ i. let e = wave_is s v w at i in omega arith)) ∙ b.ahead v on (omega arith);
-        has = λ h ch born dies k lt.
+      ahead = λ v on after. run.idle v (false_from_ne_true (core.is_in v (names w)) (λ i. let e = wave_is s v w at i in omega arith)) ∙ b.ahead v on (omega arith);
+      has = λ h ch born dies k lt.
           elim (cases_lt (wave_of plan.waves h.uid.0) s) [
-            inl before ↦
-              run.others h.buffer k (λ v i. false_from_ne_true _ (λ wv.
+            | inl before ↦
+                run.others h.buffer k (λ v i. false_from_ne_true _ (λ wv.
                 let r = written_by plan.homes v h.buffer wv in
                 kept_apart g plan sound c s h r.0 ch r.1 before (omega arith) (sym r.3) (ap (wave_of plan.waves) r.2 ∙ wave_is s v w at i)))
-              ∙ b.has h ch before (omega arith) k lt
-          | inr here ↦ (
-              let is : wave_of plan.waves h.uid.0 ≡ s = omega arith in
-              let i = is_in_of h.uid.0 (names w) (of_wave_at g plan sound c s h.uid.0 w at is) in
-              let m = named h.uid.0 i in
-              run.written h.uid.0 h.buffer k i (writes_own plan.homes h ch) lt
-              ∙ value_of (homes_at plan.homes h.uid.0) (at_home h) (core.told (machine g p plan.homes block) st h.uid.0 k) (at_node plan.homes h ch)
+                ∙ b.has h ch before (omega arith) k lt
+            | inr here ↦ (
+                let is : wave_of plan.waves h.uid.0 ≡ s = omega arith in
+                let i = is_in_of h.uid.0 (names w) (of_wave_at g plan sound c s h.uid.0 w at is) in
+                let m = named h.uid.0 i in
+                run.written h.uid.0 h.buffer k i (writes_own plan.homes h ch) lt
+                ∙ value_of (homes_at plan.homes h.uid.0) (at_home h) (core.told (machine g p plan.homes block) st h.uid.0 k) (at_node plan.homes h ch)
                 (λ a ca e.
-                  let f = Contains-from_map (λ (q : Home). at_home q) (filter (λ q. q.uid.0 == h.uid.0) plan.homes) a ca in
-                  let q = filter_from (λ q. q.uid.0 == h.uid.0) plan.homes f.0 f.1 in
-                  let one = born_apart g plan sound c f.0 h q.0 ch (ap (λ (z : core.Home). z.buffer) f.2 ∙ e) (ap (wave_of plan.waves) (eqb-true f.0.uid.0 h.uid.0 q.1)) in
-                  sym f.2 ∙ ap (λ (z : Home). at_home z) one)
-              ∙ ap (λ y. slice_index_or y h.channel (pos 0))
+                let f = Contains-from_map (λ (q : Home). at_home q) (filter (λ q. q.uid.0 == h.uid.0) plan.homes) a ca in
+                let q = filter_from (λ q. q.uid.0 == h.uid.0) plan.homes f.0 f.1 in
+                let one = born_apart g plan sound c f.0 h q.0 ch (ap (λ (z : core.Home). z.buffer) f.2 ∙ e) (ap (wave_of plan.waves) (eqb-true f.0.uid.0 h.uid.0 q.1)) in
+                sym f.2 ∙ ap (λ (z : Home). at_home z) one)
+                ∙ ap (λ y. slice_index_or y h.channel (pos 0))
                 (told_is g p (depth g) plan.homes x block T n h.uid.0 st ranked brings (b.ahead h.uid.0 (on_in s h.uid.0 w at i) (omega arith)) (reads_right s w st at b h.uid.0 i) m.0 m.1 k lt))
           ];
-      }
+    }
       where
         earlier : (v : ℕ) → core.is_in v (names w) ≡ false → wave_of plan.waves v < suc s → wave_of plan.waves v < s
         earlier v f before =
             elim (cases_lt (wave_of plan.waves v) s) [
-              inl lt ↦ lt
-            | inr ge ↦ (let i = is_in_of v (names w) (of_wave_at g plan sound c s v w at (omega arith)) in absurd (cc))
+              | inl lt ↦ lt
+              | inr ge ↦ (let i = is_in_of v (names w) (of_wave_at g plan sound c s v w at (omega arith)) in absurd (cc))
             ]
 
         named : (v : ℕ) → core.is_in v (names w) ≡ true → (m : Node) × (node_named g v ≡ Some m)
@@ -248,9 +247,9 @@ module _ (g : Graph) (plan : Plan) (sound : IsSound g) (c : IsCertified g plan) 
         let at = first_of plan.waves s w ws rest in
         let e : suc s + length ws ≡ s + length (w ∷ ws) = omega arith in
         subst (λ k. IsBefore k (core.after (machine g p plan.homes block) (y ∷ ys) st)) e
-          (after_from (suc s) ws ys (core.after_wave (machine g p plan.homes block) y st) at.1 o.1
-            (next s w st (core.after_wave (machine g p plan.homes block) y st) at.0 b
-              (orders_run (machine g p plan.homes block) n (names w) y st (apart s w at.0) o.0)))
+        (after_from (suc s) ws ys (core.after_wave (machine g p plan.homes block) y st) at.1 o.1
+        (next s w st (core.after_wave (machine g p plan.homes block) y st) at.0 b
+        (orders_run (machine g p plan.homes block) n (names w) y st (apart s w at.0) o.0)))
       where
         first_of : (xs : List Wave) (k : ℕ) (y : Wave) (ys : List Wave) → drop k xs ≡ y ∷ ys → (slice_get xs k ≡ Some y) × (drop (suc k) xs ≡ ys)
         first_of [] zero y ys e = absurd (cc)
@@ -269,7 +268,7 @@ module _ (g : Graph) (plan : Plan) (sound : IsSound g) (c : IsCertified g plan) 
         stands : (v : ℕ) → is_live g v ≡ true → wave_of plan.waves v < 0 + length plan.waves
         stands v on =
             let l = stands_in v plan.waves (Contains-permutation (live_nodes g) (flat_map names plan.waves) v (schedule g plan sound c).once
-                  (filter_has (is_live g) (map (λ m. m.uid.0) g.nodes) v (listed g v (live_by g sound v on)) on)) in
+            (filter_has (is_live g) (map (λ m. m.uid.0) g.nodes) v (listed g v (live_by g sound v on)) on)) in
             omega arith
 
   -- and the buffers of every wave are apart

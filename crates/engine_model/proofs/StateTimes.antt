@@ -1,5 +1,5 @@
 -- The state where the first frames of a stream have come in, by time.
-use Rattle.std.proofs.Common.{◌≡◌, ℕ, ◌+◌, ◌≤◌, List, [], ◌∷◌, length, map, get_or, ℤ, refl, sym, ap, ◌∙◌, cond, true, false, Some, ◌==◌}
+use Rattle.std.proofs.Common.{◌≡◌, ℕ, ◌+◌, ◌≤◌, List, [], ◌∷◌, length, map, ℤ, refl, sym, ap, ◌∙◌, cond, true, false, Some, ◌==◌}
 use Rattle.std.specs.List.{AllByRecursion}
 use Rattle.std.proofs.lemmas.Bool.{eqb-true}
 use Rattle.std.proofs.lemmas.List.Elements.{recursion_from_All}
@@ -25,7 +25,6 @@ map_all f h [] e = refl
 map_all f h (x ∷ xs) e = let first = e.0 in let rest : map f xs ≡ map h xs = map_all f h xs e.1 in cc
 
 module _ (g : Graph) (p rank : ℕ → ℕ) (ranked : IsRanked rank g) (l : IsLaterBy g (is_live g) (reach g) p) where
-
   pub came_by_time : (x : ℕ → Frame) (T v : ℕ) → is_live g v ≡ true → came_in g p (before x T) v ≡ before (in_at g p x v) T
   came_by_time x T v on = sym (in-later g (is_live g) (reach g) p l (before x T) v on) ∙ incoming_is g p x v T
 
@@ -34,27 +33,26 @@ module _ (g : Graph) (p rank : ℕ → ℕ) (ranked : IsRanked rank g) (l : IsLa
 
   -- the lines into a live node
   pub lines_by_time : (x : ℕ → Frame) (T v : ℕ) → is_live g v ≡ true
-    → map (gone_into g p (before x T)) (connections_into g v)
+      → map (gone_into g p (before x T)) (connections_into g v)
       ≡ map (λ c. channel c.src_channel (before (out_at g p x c.src.0) T)) (connections_into g v)
   lines_by_time x T v on =
       map_all _ _ (connections_into g v)
-        (filter_all (λ c. c.dst.0 == v)
-          (λ c. (IsNode g c.src.0 × IsNode g c.dst.0) × (is_live g c.dst.0 ≡ true → (is_live g c.src.0 ≡ true) × (reach g c.src.0 + latency_at g c.src.0 ≤ reach g c.dst.0) × (p c.src.0 + latency_at g c.src.0 ≤ p c.dst.0)))
-          (λ c. gone_into g p (before x T) c ≡ channel c.src_channel (before (out_at g p x c.src.0) T))
-          g.connections (recursion_from_All _ g.connections (λ k d lt. (ranked.nodes k d lt, l.after k d lt)))
-          (λ c e facts.
-            let at : c.dst.0 ≡ v = eqb-true _ _ e in
-            let live = (facts.1 (ap (is_live g) at ∙ on)).0 in
-            ap (λ h. channel c.src_channel h) (gone_by_time x T c.src.0 live facts.0.0)))
-
+      (filter_all (λ c. c.dst.0 == v)
+      (λ c. (IsNode g c.src.0 × IsNode g c.dst.0) × (is_live g c.dst.0 ≡ true → (is_live g c.src.0 ≡ true) × (reach g c.src.0 + latency_at g c.src.0 ≤ reach g c.dst.0) × (p c.src.0 + latency_at g c.src.0 ≤ p c.dst.0)))
+      (λ c. gone_into g p (before x T) c ≡ channel c.src_channel (before (out_at g p x c.src.0) T))
+      g.connections (recursion_from_All _ g.connections (λ k d lt. (ranked.nodes k d lt, l.after k d lt)))
+      (λ c e facts.
+      let at : c.dst.0 ≡ v = eqb-true _ _ e in
+      let live = (facts.1 (ap (is_live g) at ∙ on)).0 in
+      ap (λ h. channel c.src_channel h) (gone_by_time x T c.src.0 live facts.0.0)))
 
   -- the state where x's first T frames have come in, by time
   pub state_by_time : (x : ℕ → Frame) (T v : ℕ) (n : Node) → node_named g v ≡ Some n → is_live g v ≡ true
-    → record { came = came_of g p (before x T) (node_named g v) v; passed = map (gone_into g p (before x T)) (connections_into g v) } ≡ kept_at g p x T v
+      → record { came = came_of g p (before x T) (node_named g v) v; passed = map (gone_into g p (before x T)) (connections_into g v) } ≡ kept_at g p x T v
   state_by_time x T v n named live =
       let lines = lines_by_time x T v live in
       let came : came_of g p (before x T) (node_named g v) v ≡ before (came_at g p x (node_named g v) v) T =
-          ap (λ o. came_of g p (before x T) o v) named ∙ by_kind ∙ ap (λ o. before (came_at g p x o v) T) (sym named) in
+      ap (λ o. came_of g p (before x T) o v) named ∙ by_kind ∙ ap (λ o. before (came_at g p x o v) T) (sym named) in
       λ i. record { came = came i; passed = lines i }
     where
       by_kind : came_of g p (before x T) (Some n) v ≡ before (came_at g p x (Some n) v) T

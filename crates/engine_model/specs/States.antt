@@ -1,5 +1,5 @@
 -- What the nodes keep at a time.
-use Rattle.std.specs.Prelude.{ℕ, List, [], map, if◌then◌else◌, Option, Some, None}
+use Rattle.std.specs.Prelude.{ℕ, [], map, if◌then◌else◌, Option, Some, None}
 use Rattle.graph_model.specs.Histories.{Frame, channel, before}
 use Rattle.graph_model.specs.Graphs.{node_named, is_input, connections_into}
 use Rattle.graph_model.specs.Streams.{in_at, out_at}
