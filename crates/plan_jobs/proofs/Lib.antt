@@ -1,0 +1,5 @@
+pub mod HingeFacts
+pub mod ReadyFacts
+pub mod TurnFacts
+pub mod MakeFacts
+pub mod NodeFacts
