@@ -50,7 +50,7 @@ abbrev pub no_home : Home
 no_home = record { channel = 0; buffer = 0 }
 
 abbrev pub no_wire : Wire
-no_wire = record { channel = 0; buffer = 0; own = None }
+no_wire = record { channel = 0; buffer = 0; own = None; first = false }
 
 -- ---- one node: its player takes the machine's steps
 serves_taken : (g : Graph) (p : ℕ → ℕ) (block : ℕ → Frame) (v k : ℕ) (ls : List (List ℤ)) (o : Option Node) (bound : Bound) (sv : Server) → ((n : Node) → o ≡ Some n → Serves n.kind bound sv) → (n : Node) → o ≡ Some n

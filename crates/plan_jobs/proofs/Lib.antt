@@ -3,3 +3,5 @@ pub mod ReadyFacts
 pub mod TurnFacts
 pub mod MakeFacts
 pub mod NodeFacts
+pub mod JobFacts
+pub mod WireFacts

@@ -1,7 +1,12 @@
 -- Lists that are made entry by entry, of those that pass a test.
 use Rattle.std.proofs.Common.{◌≡◌, ℕ, ◌+◌, ◌<◌, ◌≤◌, zero, suc, Bool, true, false, cond, ℤ, pos, List, [], ◌∷◌, ◌++◌, length, map, take, replicate, get_or, refl, sym, ◌∙◌, ap, subst, arith, add-one, ◌==◌, inl, inr, ⊎_elim, Option}
 use Rattle.std.proofs.Common.{◌*◌, Some, None}
-use Rattle.std.specs.List.{filter, All}
+use Rattle.std.specs.List.{filter, All, Contains}
+use Rattle.std.specs.Prelude.{not, reverse, ◌-◌}
+use Rattle.players.specs.Reads.{channels_of, is_fed}
+use Rattle.std.proofs.lemmas.Bool.{cases_Bool}
+use Rattle.std.proofs.lemmas.List.{ext_get_or, length-reverse, get_or-reverse, take-append-le}
+use Rattle.graph_model.specs.StreamLaws.{get_or_zeros}
 use Rattle.std.proofs.lemmas.List.{length-map, length-replicate, get_or-map}
 use Rattle.std.proofs.lemmas.List.Elements.{All-contains, Contains-get_or}
 use Rattle.std.proofs.lemmas.Bool.{eqb-true}
@@ -62,8 +67,9 @@ map_more f (y ∷ xs) x = ap (λ z. f y ∷ z) (map_more f xs x)
 -- ---- wires
 pub wires_more : (cs : List Connection) (homes : List PlanHome) (own : List Home) (v : ℕ) (ws : List Wire) (i : ℕ) (d : Connection) (w : Wire) → i < length cs → ((get_or cs i d).dst.0 == v) ≡ true
     → w.buffer ≡ buffer_for homes (get_or cs i d) → w.channel ≡ (get_or cs i d).dst_channel → IsOwnRight own w.buffer w.own
+    → w.first ≡ not (is_fed (channels_of ws) w.channel)
     → AreWiresOf (take i cs) homes own v ws → AreWiresOf (take (i + 1) cs) homes own v (ws ++ w ∷ [])
-wires_more cs homes own v ws i d w lt t b ch right a =
+wires_more cs homes own v ws i d w lt t b ch right first a =
     let more = passes (λ c. c.dst.0 == v) cs i d lt t in
     record {
       buffers = map_more (λ (u : Wire). u.buffer) ws w ∙ ap (λ z. z ++ w.buffer ∷ []) a.buffers ∙ ap (λ z. map (λ c. buffer_for homes c) (filter (λ c. c.dst.0 == v) (take i cs)) ++ z ∷ []) b
@@ -77,6 +83,21 @@ wires_more cs homes own v ws i d w lt t b ch right a =
           (λ last.
             let z : j ≡ length ws + 0 = omega arith in
             subst (λ (u : Wire). IsOwnRight own u.buffer u.own) (sym (at_end ws w e j (omega arith))) right)
+          (cases_lt j (length ws));
+      first = λ j e lj.
+        let ls = length-append ws (w ∷ []) in
+        let lc = length-map ws (λ (u : Wire). u.channel) in
+        let all = map_more (λ (u : Wire). u.channel) ws w in
+        ⊎_elim
+          (λ before.
+            subst (λ (u : Wire). u.first ≡ not (is_fed (take j (channels_of (ws ++ w ∷ []))) u.channel)) (sym (get_or_append_left ws (w ∷ []) e j before))
+            (subst (λ zs. (get_or ws j e).first ≡ not (is_fed zs (get_or ws j e).channel)) (sym (ap (take j) all ∙ take-append-le j (channels_of ws) (w.channel ∷ []) (omega arith)))
+              (a.first j e before)))
+          (λ last.
+            let is : j ≡ length ws = omega arith in
+            subst (λ (u : Wire). u.first ≡ not (is_fed (take j (channels_of (ws ++ w ∷ []))) u.channel)) (sym (at_end ws w e j is))
+            (subst (λ zs. w.first ≡ not (is_fed zs w.channel))
+              (sym (ap (take j) all ∙ take-append-le j (channels_of ws) (w.channel ∷ []) (omega arith) ∙ take_all j (channels_of ws) (omega arith))) first))
           (cases_lt j (length ws));
     }
   where
@@ -94,6 +115,7 @@ wires_stay cs homes own v ws i d lt t a =
       buffers = a.buffers ∙ ap (map (λ c. buffer_for homes c)) (sym same);
       channels = a.channels ∙ ap (map (λ c. c.dst_channel)) (sym same);
       right = a.right;
+      first = a.first;
     }
 
 pub wires_all : (cs : List Connection) (homes : List PlanHome) (own : List Home) (v : ℕ) (ws : List Wire) (i : ℕ) → length cs ≤ i → AreWiresOf (take i cs) homes own v ws → AreWiresOf cs homes own v ws
@@ -111,22 +133,18 @@ take_whole : (d : ℕ) → take d (replicate d (pos 0)) ≡ replicate d (pos 0)
 take_whole zero = refl
 take_whole (suc d) = ap (λ xs. pos 0 ∷ xs) (take_whole d)
 
-windows_made : (g : Graph) (p : ℕ → ℕ) (cs : List Connection) → map (λ c. replicate (delay g p c) (pos 0)) cs ≡ windows_on (map (λ c. delay g p c) cs) (map (λ c. []) cs)
-windows_made g p [] = refl
-windows_made g p (c ∷ cs) = ap (λ w. w ∷ map (λ d. replicate (delay g p d) (pos 0)) cs) (sym (take_whole (delay g p c))) ∙ ap (λ ws. window (delay g p c) [] ∷ ws) (windows_made g p cs)
+turned : (d : ℕ) → reverse (replicate d (pos 0)) ≡ replicate d (pos 0)
+turned d =
+    let lr = length-reverse (replicate d (pos 0)) in
+    let l = length-replicate d (pos 0) in
+    ext_get_or (pos 0) (reverse (replicate d (pos 0))) (replicate d (pos 0)) lr
+      (λ i lt. get_or-reverse (replicate d (pos 0)) i (pos 0) (omega arith) ∙ get_or_zeros d (length (replicate d (pos 0)) - 1 - i) ∙ sym (get_or_zeros d i))
 
-fits_kind : (kind : Kind) (bound : Bound) (sv : Server) → Serves kind bound sv → FitsServer sv (ins_of kind) (outs_of kind)
-fits_kind kind bound Entry s = no_ins kind s
-  where
-    no_ins : (k : Kind) → is_input k ≡ true → ins_of k ≡ 0
-    no_ins (Input c) e = refl
-    no_ins k e = absurd (cc)
-fits_kind kind bound (Exit x) s = (no_outs kind s.0, s.1)
-  where
-    no_outs : (k : Kind) → is_output k ≡ true → outs_of k ≡ 0
-    no_outs (Output c) e = refl
-    no_outs k e = absurd (cc)
-fits_kind kind bound (Between p) s = (ap ins_of (sym s.2), ap outs_of (sym s.2))
+windows_made : (g : Graph) (p : ℕ → ℕ) (cs : List Connection) → map (λ c. replicate (delay g p c) (pos 0)) cs ≡ map reverse (windows_on (map (λ c. delay g p c) cs) (map (λ c. []) cs))
+windows_made g p [] = refl
+windows_made g p (c ∷ cs) =
+    ap (λ w. w ∷ map (λ d. replicate (delay g p d) (pos 0)) cs) (sym (turned (delay g p c)) ∙ ap reverse (sym (take_whole (delay g p c))))
+    ∙ ap (λ ws. reverse (window (delay g p c) []) ∷ ws) (windows_made g p cs)
 
 channels_within : (cs : List Connection) (v n : ℕ) → All (λ c. c.dst.0 ≡ v → c.dst_channel < n) cs → (i : ℕ) → i < length (map (λ c. c.dst_channel) (filter (λ c. c.dst.0 == v) cs)) → get_or (map (λ c. c.dst_channel) (filter (λ c. c.dst.0 == v) cs)) i 0 < n
 channels_within cs v n all i lt =
@@ -139,10 +157,11 @@ channels_within cs v n all i lt =
 
 pub made_player : (g : Graph) (p : ℕ → ℕ) (homes : List PlanHome) (own : List Home) (node : Node) (bound : Bound) (a : Player)
     → node_named g node.uid.0 ≡ Some node → bound ≡ bounds g node.uid.0 → All (λ c. c.dst.0 ≡ node.uid.0 → c.dst_channel < ins_of node.kind) g.connections → map core_home own ≡ homes_at homes node.uid.0
-    → AreWiresOf g.connections homes own node.uid.0 a.wires.items → AreLinesOf g p g.connections node.uid.0 a.lines.items → Serves node.kind bound a.server × ServerHolds a.server []
-    → a.ins ≡ ins_of node.kind → a.outs ≡ outs_of node.kind → length a.sums.items ≡ a.ins * 64 → length a.told.items ≡ a.outs * 64
+    → AreWiresOf g.connections homes own node.uid.0 a.wires.items → AreLinesOf g p g.connections node.uid.0 a.lines.items → Serves node.kind bound a.server × ServerHolds a.server [] × FitsServer a.server (ins_of node.kind) (outs_of node.kind)
+    → a.ins ≡ ins_of node.kind → a.outs ≡ outs_of node.kind → length a.sums.items ≡ a.ins * 64 → length a.told.items ≡ a.outs * 64 → length a.spare.items ≡ 64
+    → All (λ d. d < a.ins) a.silent.items → ((d : ℕ) → d < a.ins → is_fed (channels_of a.wires.items) d ≡ false → Contains a.silent.items d)
     → IsNewPlayer g p homes node.uid.0 own a
-made_player g p homes own node bound a named is_bound channels own_is wires lines server ins outs sums told =
+made_player g p homes own node bound a named is_bound channels own_is wires lines server ins outs sums told spare within silent =
     let v = node.uid.0 in
     let delays : delays_of a ≡ delays_into g p node.uid.0 = ap (map (λ l. length l)) lines ∙ delays_made g p (connections_into g node.uid.0) in
     let lw : length a.wires.items ≡ length (connections_into g node.uid.0) = sym (length-map a.wires.items (λ (w : Wire). w.channel)) ∙ ap length wires.channels ∙ length-map (connections_into g node.uid.0) (λ (c : Connection). c.dst_channel) in
@@ -164,17 +183,21 @@ made_player g p homes own node bound a named is_bound channels own_is wires line
           lines = ll ∙ sym lw;
           sums = sums;
           told = told;
+          spare = spare;
+          silent = within;
+          first = wires.first;
+          rows = λ d lt. elim (cases_Bool (is_fed (channels_of a.wires.items) d)) [ inl fed ↦ inl fed | inr not_fed ↦ inr (silent d lt not_fed) ];
           channels = λ i d lt.
             let at : get_or (map (λ (w : Wire). w.channel) a.wires.items) i 0 ≡ (get_or a.wires.items i d).channel = get_or-map (λ (w : Wire). w.channel) a.wires.items i d 0 lt in
             let li : i < length (map (λ (w : Wire). w.channel) a.wires.items) = subst (λ z. i < z) (sym (length-map a.wires.items (λ (w : Wire). w.channel))) lt in
             subst (λ z. (get_or a.wires.items i d).channel < z) (sym ins)
             (subst (λ z. z < ins_of node.kind) at
               (subst (λ zs. get_or zs i 0 < ins_of node.kind) (sym wires.channels) (channels_within g.connections node.uid.0 (ins_of node.kind) channels i (subst (λ zs. i < length zs) wires.channels li))));
-          server = subst (λ z. FitsServer a.server z a.outs) (sym ins) (subst (λ z. FitsServer a.server (ins_of node.kind) z) (sym outs) (fits_kind node.kind bound a.server server.0));
+          server = subst (λ z. FitsServer a.server z a.outs) (sym ins) (subst (λ z. FitsServer a.server (ins_of node.kind) z) (sym outs) server.2);
         };
       };
       holds = record {
-        lines = lines ∙ windows_made g p (connections_into g node.uid.0) ∙ ap (λ ds. windows_on ds (map (λ c. []) (connections_into g node.uid.0))) (sym delays);
+        lines = lines ∙ windows_made g p (connections_into g node.uid.0) ∙ ap (λ ds. map reverse (windows_on ds (map (λ c. []) (connections_into g node.uid.0)))) (sym delays);
         passed = length-map (connections_into g node.uid.0) (λ c. []) ∙ sym lw;
         kernel = server.1;
       };

@@ -461,7 +461,7 @@ module _ (input : List ℤ) (channels : ℕ) (ends : List ℕ) (n : ℕ) (jobs :
                 (λ inside. let at : start + (i - start) ≡ i = omega arith in
                   let lq : i - start < length (take (get_or ends k 0 - start) (drop start jobs')) = let z = ran.jobs_len in omega arith in
                   subst (λ (z : Job Player). length z.desk.outs.items ≡ length z.desk.homes.items) (sym (ap (λ z. get_or (put_mid start (get_or ends k 0 - start) jobs' part') z d) (sym at) ∙ put_at start (get_or ends k 0 - start) jobs' part' (i - start) d (omega arith) (omega arith)))
-                    (ran.outs (i - start) d lq ∙ slice_outs (i - start) d lq ∙ sym (ap length (ran.homes (i - start) d lq))))
+                    (ap length (ran.outs (i - start) d lq) ∙ slice_outs (i - start) d lq ∙ sym (ap length (ran.homes (i - start) d lq))))
                 (λ past. subst (λ (z : Job Player). length z.desk.outs.items ≡ length z.desk.homes.items) (sym (put_after start (get_or ends k 0 - start) jobs' part' i d pl (omega arith) (omega arith))) (t.outs i d li))
                 (cases_lt i (get_or ends k 0)))
               (cases_lt i start)

@@ -1,17 +1,17 @@
 //! The player of a node.
 
 ghost use Rattle.std.specs.Prelude.{◌≡◌, ◌==◌, [], false, Some, ℕ, ◌^◌, ◌<◌, ◌≤◌, length, map, replicate, pos, IfOk, List};
-ghost use Rattle.std.specs.List.{All, Contains};
+ghost use Rattle.std.specs.List.{All, Contains, list_any};
 ghost use Rattle.graph_model.specs.Answers.{delay};
 ghost use Rattle.graph_model.specs.Bounds.{bounds};
 ghost use Rattle.graph_model.specs.Graphs.{is_input, is_output, node_named};
 ghost use Rattle.graph_model.specs.Kernels.{IsBoundOf};
-ghost use Rattle.graph_model.specs.Kinds.{ins_of};
+ghost use Rattle.graph_model.specs.Kinds.{ins_of, outs_of};
 ghost use Rattle.graph_model.specs.Ranges.{HasRange};
 ghost use Rattle.plan_model.specs.Alignments.{IsAfter, position_in};
 ghost use Rattle.engine_model.specs.Machines.{homes_at};
 ghost use Rattle.players.specs.Reads.{channels_of, is_fed};
-ghost use Rattle.players.specs.Servers.{ServerHolds};
+ghost use Rattle.players.specs.Servers.{FitsServer, ServerHolds};
 ghost use Rattle.plan_jobs.specs.Jobs.{IsNewPlayer, Serves, core_home};
 ghost use Rattle.plan_jobs.specs.Made.{AreLinesOf, AreWiresOf};
 
@@ -26,7 +26,7 @@ use std::alloc::{AllocError, Global};
 
 /// Whether a wire feeds the channel.
 fn is_fed(wires: &[Wire], channel: usize) -> bool
-    ensures { result ≡ is_fed (channels_of wires.now) channel }
+    ensures { result ≡ list_any (λ w. w.channel == channel) wires.now }
 {
     wires.iter().any(|wire| wire.channel == channel)
 }
@@ -91,7 +91,7 @@ fn lines_of(alloc: Global, graph: &Graph, ats: &[At], uid: Uid) -> Result<Vec<Li
 fn server_of(alloc: Global, node: &Node, bound: &Bound) -> Result<Server, AllocError>
     requires range { HasRange node.now.kind }
     requires bound { is_input node.now.kind ≡ false → is_output node.now.kind ≡ false → IsBoundOf node.now.kind bound.now }
-    ensures { IfOk result (λ server. Serves node.now.kind bound.now server × ServerHolds server []) }
+    ensures { IfOk result (λ server. Serves node.now.kind bound.now server × ServerHolds server [] × FitsServer server (ins_of node.now.kind) (outs_of node.now.kind)) }
 {
     if node.kind.is_input() {
         return Ok(Server::Entry);
