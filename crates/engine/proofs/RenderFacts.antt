@@ -1,5 +1,6 @@
 -- From the parts of an engine to what contracts see of it.
-use Rattle.std.proofs.Common.{◌≡◌, ℕ, ◌+◌, ◌*◌, ◌/◌, ◌^◌, ◌<◌, ◌≤◌, ℤ, List, [], ◌∷◌, ◌++◌, length, refl, sym, ◌∙◌, ap, subst, arith}
+use Rattle.std.proofs.Common.{◌≡◌, ℕ, ◌+◌, ◌*◌, ◌/◌, ◌^◌, ◌<◌, ◌≤◌, ℤ, List, [], ◌∷◌, ◌++◌, length, take, refl, sym, ◌∙◌, ap, subst, arith}
+use Rattle.std.proofs.Math.Seq.{take-append_seam}
 use Rattle.graph_model.specs.Histories.{History, frames_of}
 use Rattle.graph_model.proofs.BlockLaws.{length-frames_of, whole}
 use Rattle.graph_model.specs.declared.graph.Graph.{Graph}
@@ -13,6 +14,10 @@ use Rattle.players.specs.declared.playing.Player.{Player}
 use Rattle.engine.specs.declared.shape.Shape.{Shape}
 use Rattle.engine.specs.Views.{parts_of}
 use Rattle.engine.specs.Working.{IsWorking, MayRender, IsRendered}
+
+-- what is written back to a list of as many items is what was written
+pub take_left : {X : Type 0} (a b : List X) (n : ℕ) → length a ≡ n → take n (a ++ b) ≡ a
+take_left a b n e = ap (λ k. take k (a ++ b)) (sym e) ∙ take-append_seam a b
 
 module _ (graph : Graph) (plan : Plan) (block frames : ℕ) (sh : Shape) (jobs : List (Job Player)) (pool : List (List ℤ)) (w : IsWorking graph plan block frames sh jobs pool)
     (e : Parts) (view : parts_of graph plan block frames jobs pool ≡ e) (input output : List ℤ) (b : (n : ℕ) × IsBlock e n input output)
@@ -48,11 +53,11 @@ module _ (graph : Graph) (plan : Plan) (block frames : ℕ) (sh : Shape) (jobs :
             omega (arith, count);
         }))
 
-  module _ (jobs' : List (Job Player)) (pool' : List (List ℤ)) (output' : List ℤ) (r : IsRendered sh frames js ps input jobs' pool' output')
-      (jv : List (Job Player)) (pv : List (List ℤ)) (jv_is : jv ≡ jobs') (pv_is : pv ≡ pool') where
-    abbrev e' : Parts
-    e' = parts_of graph plan block (frames + length input / sh.ins) jv pv
+  pub now_counts : (k : ℕ) → k ≡ length input / sh.ins → frames + k ≡ e.frames + length (frames_of (model.ins e) input)
+  now_counts k k_is = let l = long in let f = ap (λ (z : Parts). z.frames) view in omega (arith, k_is)
 
+  module _ (jobs' : List (Job Player)) (pool' : List (List ℤ)) (output' : List ℤ) (r : IsRendered sh frames js ps input jobs' pool' output')
+      (jv : List (Job Player)) (pv : List (List ℤ)) (jv_is : jv ≡ jobs') (pv_is : pv ≡ pool') (k : ℕ) (k_is : k ≡ length input / sh.ins) where
     r0 : IsRendered sh frames jobs pool input jv pv output'
     r0 =
         subst (λ z. IsRendered sh frames jobs pool input jv z output') (sym pv_is)
@@ -60,13 +65,13 @@ module _ (graph : Graph) (plan : Plan) (block frames : ℕ) (sh : Shape) (jobs :
         (subst (λ z. IsRendered sh frames jobs z input jobs' pool' output') ep
         (subst (λ z. IsRendered sh frames z ps input jobs' pool' output') ej r)))
 
-    pub now_works : IsWorking graph plan block (frames + length input / sh.ins) sh jv pv
-    now_works = r0.working graph plan block w most
+    pub now_works : IsWorking graph plan block (frames + k) sh jv pv
+    now_works = subst (λ n. IsWorking graph plan block (frames + n) sh jv pv) (sym k_is) (r0.working graph plan block w most)
 
     stood : (h : History) → Stands e h → Stands (parts_of graph plan block frames jobs pool) h
     stood h s = subst (λ (z : Parts). Stands z h) (sym view) s
 
-    pub now_rendered : HasRendered e input output' (parts_of graph plan block (frames + length input / sh.ins) jv pv)
+    pub now_rendered : HasRendered e input output' (parts_of graph plan block (frames + k) jv pv)
     now_rendered = record {
       same = record {
           graph = ap (λ (z : Parts). z.graph) view;
@@ -79,14 +84,13 @@ module _ (graph : Graph) (plan : Plan) (block frames : ℕ) (sh : Shape) (jobs :
           r0.output_len ∙ ap (λ z. length input / sh.ins * z) (w.outs_is ∙ ap model.outs view),
       );
       stands = λ h s.
-          subst (λ i. Stands (parts_of graph plan block (frames + length input / sh.ins) jv pv) (frames_of i input ++ h)) ins_e (r0.both graph plan block w most h (stood h s)).0;
+          subst (λ n. Stands (parts_of graph plan block (frames + n) jv pv) (frames_of (model.ins e) input ++ h)) (sym k_is)
+          (subst (λ i. Stands (parts_of graph plan block (frames + length input / sh.ins) jv pv) (frames_of i input ++ h)) ins_e (r0.both graph plan block w most h (stood h s)).0);
       answers = λ h s. subst (λ (z : Parts). Answers z input output' h) view (r0.both graph plan block w most h (stood h s)).1;
     }
 
-    pub now_orders : (h : History) → Stands e h → AnyOrder e (parts_of graph plan block (frames + length input / sh.ins) jv pv) input output' h
+    pub now_orders : (h : History) → Stands e h → AnyOrder e (parts_of graph plan block (frames + k) jv pv) input output' h
     now_orders h s =
-        subst (λ (z : Parts). AnyOrder z (parts_of graph plan block (frames + length input / sh.ins) jv pv) input output' h) view
-        (r0.any graph plan block w most h (stood h s))
-
-    pub now_counts : frames + length input / sh.ins ≡ e.frames + length (frames_of (model.ins e) input)
-    now_counts = let l = long in let f = ap (λ (z : Parts). z.frames) view in omega arith
+        subst (λ n. AnyOrder e (parts_of graph plan block (frames + n) jv pv) input output' h) (sym k_is)
+        (subst (λ (z : Parts). AnyOrder z (parts_of graph plan block (frames + length input / sh.ins) jv pv) input output' h) view
+        (r0.any graph plan block w most h (stood h s)))

@@ -63,6 +63,7 @@ impl Engine {
         ensures keeps { IfOk result (IsNew checked.now plan.now block) }
         ensures stands { IfOk result (λ e. Stands e []) }
     {
+        let graph = checked.graph();
         let Jobs { jobs, ends } = jobs_of(alloc, checked, plan)?;
         let output = checked.uid(checked.output());
         let shape = Shape {
@@ -74,7 +75,7 @@ impl Engine {
         let pool = pool_of(alloc, plan.channels as usize, block as usize)?;
         let lines = delays_of(alloc, plan)?;
         Ok(Engine {
-            graph: checked.graph().copy(alloc)?,
+            graph: graph.copy(alloc)?,
             plan: plan.copy(alloc)?,
             block,
             frames: 0,
