@@ -1,5 +1,5 @@
 -- A block begins: the exit counts from here on.
-use Rattle.std.proofs.Common.{◌≡◌, ℕ, ◌<◌, ◌≤◌, suc, List, length, map, get_or, refl, sym, ◌∙◌, ap, subst, arith, true, false, ⊎_elim}
+use Rattle.std.proofs.Common.{◌≡◌, ℕ, ◌<◌, ◌≤◌, suc, List, length, map, get_or, refl, sym, ◌∙◌, ap, subst, arith, ⊎_elim}
 use Rattle.std.specs.Prelude.{reverse}
 use Rattle.graph_model.specs.declared.kind.Kind.{Kind}
 use Rattle.graph_model.specs.declared.graph.Bound.{Bound}
@@ -31,7 +31,7 @@ begin_more frames jobs k jobs' jobs'' j b len lk at other is = record {
   done = λ i d lt li. ⊎_elim
       (λ (less : i < k). other i d (λ e. omega arith) ∙ b.done i d less li)
       (λ (le : k ≤ i). let same : k ≡ i = omega arith in
-        subst (λ z. get_or jobs'' z d ≡ began frames (get_or jobs z d)) same (at d ∙ is d ∙ ap (λ (z : Job Player). began frames z) (b.rest k d (omega arith))))
+      subst (λ z. get_or jobs'' z d ≡ began frames (get_or jobs z d)) same (at d ∙ is d ∙ ap (λ (z : Job Player). began frames z) (b.rest k d (omega arith))))
       (cases_lt i k);
   rest = λ i d le. other i d (λ e. omega arith) ∙ b.rest i d (omega arith);
 }

@@ -1,22 +1,21 @@
 -- A block of an engine.
-use Rattle.std.proofs.Common.{◌≡◌, ℕ, zero, suc, ◌+◌, ◌-◌, ◌*◌, ◌/◌, ◌^◌, ◌<◌, ◌≤◌, ℤ, pos, List, [], ◌∷◌, ◌++◌, length, map, take, drop, get_or, refl, sym, ◌∙◌, ap, subst, arith, Bool, true, false, cond, Option, Some, None}
+use Rattle.std.proofs.Common.{◌≡◌, ℕ, ◌+◌, ◌-◌, ◌*◌, ◌/◌, ◌^◌, ◌<◌, ◌≤◌, ℤ, pos, List, [], ◌∷◌, ◌++◌, length, map, take, get_or, refl, sym, ◌∙◌, ap, subst, arith, true, Option, Some, None}
 use Rattle.std.specs.Prelude.{unsigned_abs}
-use Rattle.std.specs.List.{All, range_with_len, flat_map}
+use Rattle.std.specs.List.{All}
 use Rattle.std.proofs.lemmas.Bool.{cond-false}
-use Rattle.std.proofs.lemmas.List.{ext_get_or, length-map, length-append, get_or-map}
+use Rattle.std.proofs.lemmas.List.{ext_get_or, length-map, get_or-map}
 use Rattle.std.proofs.lemmas.List.FromFn.{length-map-range_with_len}
 use Rattle.graph_model.specs.Histories.{Frame, History, before, frame_in, frames_of}
-use Rattle.graph_model.specs.Graphs.{IsRanked, node_named, ins_at, outs_at, is_input, input_name, output_name, connections_to}
+use Rattle.graph_model.specs.Graphs.{IsRanked, node_named, ins_at, is_input, output_name, connections_to}
 use Rattle.graph_model.specs.Kinds.{ins_of}
 use Rattle.graph_model.specs.Answers.{sum_of}
 use Rattle.graph_model.specs.Positions.{IsLaterBy}
 use Rattle.graph_model.specs.Paths.{is_live, reach, depth}
-use Rattle.graph_model.specs.Sound.{IsSound}
 use Rattle.graph_model.proofs.BlockLaws.{length-before, length-frames_of, whole}
 use Rattle.graph_model.proofs.RankLaws.{sound_is_ranked}
 use Rattle.graph_model.specs.declared.graph.Node.{Node}
 use Rattle.graph_model.specs.declared.graph.Graph.{Graph}
-use Rattle.plan_model.specs.Certified.{IsCertified, positions}
+use Rattle.plan_model.specs.Certified.{positions}
 use Rattle.plan_model.specs.Schedules.{names}
 use Rattle.plan_model.specs.declared.plan.Plan.{Plan}
 use Rattle.plan_model.proofs.CertifiedLaws.{alignment_of}
@@ -26,11 +25,10 @@ use Rattle.graph_model.specs.Streams.{in_at, out_at, tap}
 use Rattle.engine_model.proofs.Blocks.{frame_at}
 use Rattle.engine_model.specs.Machines.{Kept, machine}
 use Rattle.engine_model.specs.States.{came_at, kept_at}
-use Rattle.engine_model.specs.Engines.{Job as Seen, Parts, Stands, JobStands, IsBlock, Answers}
-use Rattle.engine_model.specs.Events.{JobIsLeft, IsLeftBy, AnyOrder, state_of, after_orders, sample_of}
-use Rattle.engine_model.specs.Engines as model
+use Rattle.engine_model.specs.Engines.{Job as Seen, Stands, JobStands, Answers}
+use Rattle.engine_model.specs.Events.{JobIsLeft, IsLeftBy, AnyOrder, state_of, after_orders}
 use Rattle.graph_model.proofs.StreamTimes.{sums_are}
-use Rattle.engine_model.proofs.Blocks.{before_frames, before_frames_append, frames_are}
+use Rattle.engine_model.proofs.Blocks.{before_frames_append, frames_are}
 use Rattle.engine_model.proofs.Renders.{get_or-before, frame_after}
 use Rattle.engine_model.proofs.OrderLaws.{one_thread, some_order, blocks_run}
 use Rattle.engine_model.proofs.EngineLaws.{orders_give}
@@ -40,13 +38,13 @@ use Rattle.pool_waves.specs.declared.job.Job.{Job}
 use Rattle.players.specs.declared.leaving.Leaving.{Leaving}
 use Rattle.players.specs.declared.playing.Player.{Player}
 use Rattle.players.specs.declared.playing.Server.{Server}
-use Rattle.players.specs.declared.playing.Server.TheVariants.{Entry, Exit, Between}
+use Rattle.players.specs.declared.playing.Server.TheVariants.{Exit}
 use Rattle.players.specs.Servers.{SameServer, ServerHolds, HasLeft}
 use Rattle.players.specs.Plays.{Holds}
 use Rattle.plan_jobs.specs.Jobs.{IsPlayerOf}
 use Rattle.plan_jobs.specs.Hinges.{AreJobsOf, AreAt}
-use Rattle.plan_jobs.specs.Blocks.{all_nodes, JobStays, CanRunBlock, BlockHasRun}
-use Rattle.engine.specs.Views.{kernel_of, seen, parts_of, from_now, began}
+use Rattle.plan_jobs.specs.Blocks.{all_nodes, CanRunBlock, BlockHasRun}
+use Rattle.engine.specs.Views.{kernel_of, seen, parts_of, began}
 use Rattle.engine.specs.Working.{AreSmall, IsWorking, MayRender, IsRendered}
 use Rattle.engine.specs.declared.shape.Shape.{Shape}
 use Rattle.engine.specs.Outputs.{CanLeave, HasWritten}
@@ -75,8 +73,8 @@ module _ (frames : ℕ) (sh : Shape) (graph : Graph) (plan : Plan) (block : ℕ)
   jobs_are1 = record {
     len = len1 ∙ w.jobs_are.len;
     each = λ i d lt.
-      let lj : i < length jobs = omega (arith, lt, len1) in
-      subst (λ (j : Job Player). IsPlayerOf graph (positions plan) plan.homes (get_or (all_nodes plan) i 0) j.desk.homes.items j.part) (sym (each1 i d lj))
+        let lj : i < length jobs = omega (arith, lt, len1) in
+        subst (λ (j : Job Player). IsPlayerOf graph (positions plan) plan.homes (get_or (all_nodes plan) i 0) j.desk.homes.items j.part) (sym (each1 i d lj))
         (player_began graph (positions plan) plan.homes (get_or (all_nodes plan) i 0) frames (get_or jobs i d).desk.homes.items (get_or jobs i d) (w.jobs_are.each i d lj));
   }
 
@@ -84,25 +82,25 @@ module _ (frames : ℕ) (sh : Shape) (graph : Graph) (plan : Plan) (block : ℕ)
   job_node : (h : History) → Stands (parts_of graph plan block frames jobs pool) h → (i : ℕ) (d : Job Player) → i < length jobs → (get_or jobs i d).node ≡ get_or (all_nodes plan) i 0
   job_node h s i d lt =
       sym (get_or-map (λ (j : Seen). j.node) (map seen jobs) i (seen d) 0 (let l = length-map jobs (λ (j : Job Player). seen j) in omega arith)
-        ∙ ap (λ (j : Seen). j.node) (get_or-map seen jobs i d (seen d) lt))
+      ∙ ap (λ (j : Seen). j.node) (get_or-map seen jobs i d (seen d) lt))
       ∙ ap (λ vs. get_or vs i 0) s.nodes
 
   -- the state that the jobs are in, where the engine stands for h
   pub at_start : (h : History) → Stands (parts_of graph plan block frames jobs pool) h → AreAt (all_nodes plan) jobs1 pool (state_of (parts_of graph plan block frames jobs pool) h)
   at_start h s = record {
     holds = λ i d lt.
-      let lj : i < length jobs = omega (arith, lt, len1) in
-      let ln : i < length (all_nodes plan) = let l = w.jobs_are.len in omega arith in
-      let m = node_at graph plan w.sound w.certified (get_or (all_nodes plan) i 0) (live_at graph plan w.sound w.certified i ln) in
-      let lm = length-map jobs (λ (j : Job Player). seen j) in
-      let stands : JobStands graph (positions plan) h (seen (get_or jobs i d)) =
+        let lj : i < length jobs = omega (arith, lt, len1) in
+        let ln : i < length (all_nodes plan) = let l = w.jobs_are.len in omega arith in
+        let m = node_at graph plan w.sound w.certified (get_or (all_nodes plan) i 0) (live_at graph plan w.sound w.certified i ln) in
+        let lm = length-map jobs (λ (j : Job Player). seen j) in
+        let stands : JobStands graph (positions plan) h (seen (get_or jobs i d)) =
         subst (λ (j : Seen). JobStands graph (positions plan) h j) (get_or-map seen jobs i d (seen d) lj) (s.jobs i (seen d) (omega arith)) in
-      subst (λ (j : Job Player). Holds j.part (kept_of graph (positions plan) h (get_or (all_nodes plan) i 0))) (sym (each1 i d lj))
+        subst (λ (j : Job Player). Holds j.part (kept_of graph (positions plan) h (get_or (all_nodes plan) i 0))) (sym (each1 i d lj))
         (holds_at graph (positions plan) plan.homes (get_or (all_nodes plan) i 0) (get_or jobs i d).desk.homes.items (began frames (get_or jobs i d)).part
-          (player_began graph (positions plan) plan.homes (get_or (all_nodes plan) i 0) frames (get_or jobs i d).desk.homes.items (get_or jobs i d) (w.jobs_are.each i d lj))
-          m.0 m.1 h (get_or jobs i d).node (kernel_of (get_or jobs i d).part.server) (job_node h s i d lj)
-          (sym (ap (λ (j : Seen). j.kernel) (seen_began frames (get_or jobs i d)))) stands
-          (λ e is. let f = exit_counts frames (get_or jobs i d).part.server e is in let t = s.frames in omega arith));
+        (player_began graph (positions plan) plan.homes (get_or (all_nodes plan) i 0) frames (get_or jobs i d).desk.homes.items (get_or jobs i d) (w.jobs_are.each i d lj))
+        m.0 m.1 h (get_or jobs i d).node (kernel_of (get_or jobs i d).part.server) (job_node h s i d lj)
+        (sym (ap (λ (j : Seen). j.kernel) (seen_began frames (get_or jobs i d)))) stands
+        (λ e is. let f = exit_counts frames (get_or jobs i d).part.server e is in let t = s.frames in omega arith));
     samples = λ b k. refl;
   }
 
@@ -122,16 +120,16 @@ module _ (frames : ℕ) (sh : Shape) (graph : Graph) (plan : Plan) (block : ℕ)
     brings h k lt =
         let long = length-frames_of sh.ins n input w.some_in li in
         sym (frame_after (frames_of sh.ins input) h k (omega (arith, long))
-          ∙ ap (λ l. get_or (frames_of sh.ins input) (l - 1 - k) []) long
-          ∙ ap (λ c. get_or (before (frame_in sh.ins input) c) (n - 1 - k) []) count
-          ∙ get_or-before (frame_in sh.ins input) n k lt)
+        ∙ ap (λ l. get_or (frames_of sh.ins input) (l - 1 - k) []) long
+        ∙ ap (λ c. get_or (before (frame_in sh.ins input) c) (n - 1 - k) []) count
+        ∙ get_or-before (frame_in sh.ins input) n k lt)
 
     -- the state by time
     by_time : (h : History) (v : ℕ) → is_live graph v ≡ true → kept_of graph (positions plan) h v ≡ kept_at graph (positions plan) (frame_at (frames_of sh.ins input ++ h)) (length h) v
     by_time h v live =
         let m = node_at graph plan w.sound w.certified v live in
         subst (λ k. kept_of graph (positions plan) k v ≡ kept_at graph (positions plan) (frame_at (frames_of sh.ins input ++ h)) (length h) v) (before_frames_append (frames_of sh.ins input) h)
-          (state_by_time graph (positions plan) (depth graph) ranked late (frame_at (frames_of sh.ins input ++ h)) (length h) v m.0 m.1 live)
+        (state_by_time graph (positions plan) (depth graph) ranked late (frame_at (frames_of sh.ins input ++ h)) (length h) v m.0 m.1 live)
 
     pub can_run : CanRunBlock input sh.ins sh.ends.items n jobs1 pool
     can_run = record {
@@ -154,8 +152,8 @@ module _ (frames : ℕ) (sh : Shape) (graph : Graph) (plan : Plan) (block : ℕ)
       size = let m = w.most in omega arith;
       entry = omega (arith, li);
       outs = λ i d lt.
-        let lj : i < length jobs = omega (arith, lt, len1) in
-        subst (λ (j : Job Player). length j.desk.outs.items ≡ length j.desk.homes.items) (sym (each1 i d lj)) (w.places i d lj);
+          let lj : i < length jobs = omega (arith, lt, len1) in
+          subst (λ (j : Job Player). length j.desk.outs.items ≡ length j.desk.homes.items) (sym (each1 i d lj)) (w.places i d lj);
       few = let f = w.few in omega (arith, len1);
     }
 
@@ -198,11 +196,11 @@ module _ (frames : ℕ) (sh : Shape) (graph : Graph) (plan : Plan) (block : ℕ)
             let ln : i < length (all_nodes plan) = let l = w.jobs_are.len in omega arith in
             let m = node_at graph plan w.sound w.certified (get_or (all_nodes plan) i 0) (live_at graph plan w.sound w.certified i ln) in
             subst (λ (j : Seen). JobIsLeft graph (positions plan) ((core.after (machine graph (positions plan) plan.homes (frame_in sh.ins input)) orders (state_of (parts_of graph plan block frames jobs pool) h)).kept j.node) j)
-              (sym (get_or-map seen jobs' i (pick jobs' i l') d' l'))
-              (subst (λ v. JobIsLeft graph (positions plan) ((core.after (machine graph (positions plan) plan.homes (frame_in sh.ins input)) orders (state_of (parts_of graph plan block frames jobs pool) h)).kept v) (seen (get_or jobs' i (pick jobs' i l')))) (sym (node' i (pick jobs' i l') lj))
-                (left_at graph (positions plan) plan.homes (get_or (all_nodes plan) i 0) (get_or jobs' i (pick jobs' i l')).desk.homes.items (get_or jobs' i (pick jobs' i l')).part (after.0.each i (pick jobs' i l') l') m.0 m.1
-                  ((core.after (machine graph (positions plan) plan.homes (frame_in sh.ins input)) orders (state_of (parts_of graph plan block frames jobs pool) h)).kept (get_or (all_nodes plan) i 0))
-                  (get_or jobs' i (pick jobs' i l')).node (node' i (pick jobs' i l') lj) (after.1.holds i (pick jobs' i l') l')))
+            (sym (get_or-map seen jobs' i (pick jobs' i l') d' l'))
+            (subst (λ v. JobIsLeft graph (positions plan) ((core.after (machine graph (positions plan) plan.homes (frame_in sh.ins input)) orders (state_of (parts_of graph plan block frames jobs pool) h)).kept v) (seen (get_or jobs' i (pick jobs' i l')))) (sym (node' i (pick jobs' i l') lj))
+            (left_at graph (positions plan) plan.homes (get_or (all_nodes plan) i 0) (get_or jobs' i (pick jobs' i l')).desk.homes.items (get_or jobs' i (pick jobs' i l')).part (after.0.each i (pick jobs' i l') l') m.0 m.1
+            ((core.after (machine graph (positions plan) plan.homes (frame_in sh.ins input)) orders (state_of (parts_of graph plan block frames jobs pool) h)).kept (get_or (all_nodes plan) i 0))
+            (get_or jobs' i (pick jobs' i l')).node (node' i (pick jobs' i l') lj) (after.1.holds i (pick jobs' i l') l')))
 
         -- what came into the output node, by time
         out_live : is_live graph (output_name graph) ≡ true
@@ -232,14 +230,14 @@ module _ (frames : ℕ) (sh : Shape) (graph : Graph) (plan : Plan) (block : ℕ)
               let l' : sh.exit < length jobs' = let e = w.exit_in in omega (arith, len') in
               let l1 : sh.exit < length jobs1 = let e = w.exit_in in omega (arith, len1) in
               let st : ex.0.start ≡ frames = exit_still frames (get_or jobs sh.exit d).part.server (get_or jobs' sh.exit d).part.server
-                (subst (λ (j : Job Player). SameServer j.part.server (get_or jobs' sh.exit d).part.server) (each1 sh.exit d w.exit_in) (ran.stays sh.exit d l1).server) ex.0 ex.1 in
+              (subst (λ (j : Job Player). SameServer j.part.server (get_or jobs' sh.exit d).part.server) (each1 sh.exit d w.exit_in) (ran.stays sh.exit d l1).server) ex.0 ex.1 in
               let kept : Kept = kept_at graph (positions plan) (frame_at (frames_of sh.ins input ++ h)) (length h + n) (output_name graph) in
               let holds : ServerHolds (get_or jobs' sh.exit d).part.server (kept_at graph (positions plan) (frame_at (frames_of sh.ins input ++ h)) (length h + n) (output_name graph)).came =
-                subst (λ (z : Kept). ServerHolds (get_or jobs' sh.exit d).part.server z.came) out_kept
-                  (subst (λ v. ServerHolds (get_or jobs' sh.exit d).part.server ((core.after (machine graph (positions plan) plan.homes (frame_in sh.ins input)) orders (state_of (parts_of graph plan block frames jobs pool) h)).kept v).came) w.exit_is
-                    (after.1.holds sh.exit d l').kernel) in
+              subst (λ (z : Kept). ServerHolds (get_or jobs' sh.exit d).part.server z.came) out_kept
+              (subst (λ v. ServerHolds (get_or jobs' sh.exit d).part.server ((core.after (machine graph (positions plan) plan.homes (frame_in sh.ins input)) orders (state_of (parts_of graph plan block frames jobs pool) h)).kept v).came) w.exit_is
+              (after.1.holds sh.exit d l').kernel) in
               let left : HasLeft ex.0 (kept_at graph (positions plan) (frame_at (frames_of sh.ins input ++ h)) (length h + n) (output_name graph)).came =
-                subst (λ (z : Server). ServerHolds z (kept_at graph (positions plan) (frame_at (frames_of sh.ins input ++ h)) (length h + n) (output_name graph)).came) ex.1 holds in
+              subst (λ (z : Server). ServerHolds z (kept_at graph (positions plan) (frame_at (frames_of sh.ins input ++ h)) (length h + n) (output_name graph)).came) ex.1 holds in
               let lc' : cc < length ex.0.lines.items = let e = ex.2 in omega arith in
               let long = ex.3 cc lc' in
               let lb = length-before (came_at graph (positions plan) (frame_at (frames_of sh.ins input ++ h)) (node_named graph (output_name graph)) (output_name graph)) (length h + n) in
@@ -264,13 +262,13 @@ module _ (frames : ℕ) (sh : Shape) (graph : Graph) (plan : Plan) (block : ℕ)
             let same : n ≡ k = sym (whole sh.ins n (length input) w.some_in li) ∙ whole sh.ins k (length input) w.some_in wide_in in
             let d = pick jobs sh.exit w.exit_in in
             subst (λ m. core.AreOrdersOf m (map names plan.waves) orders → IsLeftBy (parts_of graph plan block (frames + n) jobs' pool') m output' (after_orders (parts_of graph plan block frames jobs pool) input h orders)) same
-              (λ on. subst (λ i. IsLeftBy (parts_of graph plan block (frames + n) jobs' pool') n output' (core.after (machine graph (positions plan) plan.homes (frame_in i input)) orders (state_of (parts_of graph plan block frames jobs pool) h))) w.ins_is
-                (record {
-                  gave = subst (λ m. frames_of m output' ≡ take n ((core.after (machine graph (positions plan) plan.homes (frame_in sh.ins input)) orders (state_of (parts_of graph plan block frames jobs pool) h)).kept (output_name graph)).came) w.outs_is
-                      (gave h s orders on output' lo (pick jobs sh.exit w.exit_in) (written (pick jobs sh.exit w.exit_in)));
-                  pool = λ b z. sym ((after h s orders on).1.samples b z);
-                  jobs = jobs_left h s orders on;
-                })) o
+            (λ on. subst (λ i. IsLeftBy (parts_of graph plan block (frames + n) jobs' pool') n output' (core.after (machine graph (positions plan) plan.homes (frame_in i input)) orders (state_of (parts_of graph plan block frames jobs pool) h))) w.ins_is
+            (record {
+              gave = subst (λ m. frames_of m output' ≡ take n ((core.after (machine graph (positions plan) plan.homes (frame_in sh.ins input)) orders (state_of (parts_of graph plan block frames jobs pool) h)).kept (output_name graph)).came) w.outs_is
+                  (gave h s orders on output' lo (pick jobs sh.exit w.exit_in) (written (pick jobs sh.exit w.exit_in)));
+              pool = λ b z. sym ((after h s orders on).1.samples b z);
+              jobs = jobs_left h s orders on;
+            })) o
 
         nodes_same : map (λ (j : Seen). j.node) (map seen jobs') ≡ map (λ (j : Seen). j.node) (map seen jobs)
         nodes_same =
@@ -279,21 +277,21 @@ module _ (frames : ℕ) (sh : Shape) (graph : Graph) (plan : Plan) (block : ℕ)
             let c = length-map (map seen jobs') (λ (j : Seen). j.node) in
             let e = length-map (map seen jobs) (λ (j : Seen). j.node) in
             ext_get_or 0 (map (λ (j : Seen). j.node) (map seen jobs')) (map (λ (j : Seen). j.node) (map seen jobs)) (omega (arith, len'))
-              (λ i lt.
-                let l' : i < length jobs' = omega arith in
-                let lj : i < length jobs = omega (arith, l', len') in
-                let d = pick jobs i lj in
-                get_or-map (λ (j : Seen). j.node) (map seen jobs') i (seen (pick jobs i lj)) 0 (omega arith)
-                ∙ ap (λ (j : Seen). j.node) (get_or-map seen jobs' i (pick jobs i lj) (seen (pick jobs i lj)) l')
-                ∙ (ran.stays i (pick jobs i lj) (omega (arith, lj, len1))).node ∙ ap (λ (j : Job Player). j.node) (each1 i (pick jobs i lj) lj)
-                ∙ sym (get_or-map (λ (j : Seen). j.node) (map seen jobs) i (seen (pick jobs i lj)) 0 (omega arith)
-                  ∙ ap (λ (j : Seen). j.node) (get_or-map seen jobs i (pick jobs i lj) (seen (pick jobs i lj)) lj)))
+            (λ i lt.
+            let l' : i < length jobs' = omega arith in
+            let lj : i < length jobs = omega (arith, l', len') in
+            let d = pick jobs i lj in
+            get_or-map (λ (j : Seen). j.node) (map seen jobs') i (seen (pick jobs i lj)) 0 (omega arith)
+            ∙ ap (λ (j : Seen). j.node) (get_or-map seen jobs' i (pick jobs i lj) (seen (pick jobs i lj)) l')
+            ∙ (ran.stays i (pick jobs i lj) (omega (arith, lj, len1))).node ∙ ap (λ (j : Job Player). j.node) (each1 i (pick jobs i lj) lj)
+            ∙ sym (get_or-map (λ (j : Seen). j.node) (map seen jobs) i (seen (pick jobs i lj)) 0 (omega arith)
+            ∙ ap (λ (j : Seen). j.node) (get_or-map seen jobs i (pick jobs i lj) (seen (pick jobs i lj)) lj)))
 
         pub both : (h : History) → Stands (parts_of graph plan block frames jobs pool) h
             → Stands (parts_of graph plan block (frames + n) jobs' pool') (frames_of sh.ins input ++ h) × Answers (parts_of graph plan block frames jobs pool) input output' h
         both h s =
             let r = orders_give (parts_of graph plan block frames jobs pool) (parts_of graph plan block (frames + n) jobs' pool') n input output' h w.sound w.certified (record { graph = refl; plan = refl; block = refl })
-              (li ∙ ap (λ z. n * z) w.ins_is) nodes_same refl s (any_order h s) in
+            (li ∙ ap (λ z. n * z) w.ins_is) nodes_same refl s (any_order h s) in
             (subst (λ i. Stands (parts_of graph plan block (frames + n) jobs' pool') (frames_of i input ++ h)) (sym w.ins_is) r.0, r.1)
 
         pub works : IsWorking graph plan block (frames + n) sh jobs' pool'

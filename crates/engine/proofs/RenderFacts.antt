@@ -1,5 +1,5 @@
 -- From the parts of an engine to what contracts see of it.
-use Rattle.std.proofs.Common.{◌≡◌, ℕ, ◌+◌, ◌*◌, ◌/◌, ◌^◌, ◌<◌, ◌≤◌, ℤ, List, [], ◌∷◌, ◌++◌, length, take, refl, sym, ◌∙◌, ap, subst, arith}
+use Rattle.std.proofs.Common.{◌≡◌, ℕ, ◌+◌, ◌*◌, ◌/◌, ◌^◌, ◌<◌, ◌≤◌, ℤ, List, ◌++◌, length, take, sym, ◌∙◌, ap, subst, arith}
 use Rattle.std.proofs.Math.Seq.{take-append_seam}
 use Rattle.graph_model.specs.Histories.{History, frames_of}
 use Rattle.graph_model.proofs.BlockLaws.{length-frames_of, whole}
@@ -41,17 +41,17 @@ module _ (graph : Graph) (plan : Plan) (block frames : ℕ) (sh : Shape) (jobs :
   may_render count =
       subst (λ z. MayRender sh frames js z input output) (sym ep)
       (subst (λ z. MayRender sh frames z pool input output) (sym ej)
-        (record {
-          graph = graph;
-          plan = plan;
-          block = block;
-          working = w;
-          is_block = subst (λ n. IsBlock (parts_of graph plan block frames jobs pool) n input output) (sym n_is) (subst (λ (z : Parts). IsBlock z b.0 input output) (sym view) b.1);
-          count =
+      (record {
+        graph = graph;
+        plan = plan;
+        block = block;
+        working = w;
+        is_block = subst (λ n. IsBlock (parts_of graph plan block frames jobs pool) n input output) (sym n_is) (subst (λ (z : Parts). IsBlock z b.0 input output) (sym view) b.1);
+        count =
             let l = long in
             let f = ap (λ (z : Parts). z.frames) view in
             omega (arith, count);
-        }))
+      }))
 
   pub now_counts : (k : ℕ) → k ≡ length input / sh.ins → frames + k ≡ e.frames + length (frames_of (model.ins e) input)
   now_counts k k_is = let l = long in let f = ap (λ (z : Parts). z.frames) view in omega (arith, k_is)
@@ -74,14 +74,14 @@ module _ (graph : Graph) (plan : Plan) (block frames : ℕ) (sh : Shape) (jobs :
     pub now_rendered : HasRendered e input output' (parts_of graph plan block (frames + k) jv pv)
     now_rendered = record {
       same = record {
-          graph = ap (λ (z : Parts). z.graph) view;
-          plan = ap (λ (z : Parts). z.plan) view;
-          block = ap (λ (z : Parts). z.block) view;
+        graph = ap (λ (z : Parts). z.graph) view;
+        plan = ap (λ (z : Parts). z.plan) view;
+        block = ap (λ (z : Parts). z.block) view;
       };
       frames = (
-          length input / sh.ins,
-          b.1.comes ∙ ap (λ n. n * model.ins e) (sym n_is),
-          r0.output_len ∙ ap (λ z. length input / sh.ins * z) (w.outs_is ∙ ap model.outs view),
+        length input / sh.ins,
+        b.1.comes ∙ ap (λ n. n * model.ins e) (sym n_is),
+        r0.output_len ∙ ap (λ z. length input / sh.ins * z) (w.outs_is ∙ ap model.outs view),
       );
       stands = λ h s.
           subst (λ n. Stands (parts_of graph plan block (frames + n) jv pv) (frames_of (model.ins e) input ++ h)) (sym k_is)

@@ -1,5 +1,5 @@
 -- Frames written one after another.
-use Rattle.std.proofs.Common.{◌≡◌, ℕ, zero, suc, ◌+◌, ◌-◌, ◌*◌, ◌<◌, ◌≤◌, ℤ, pos, List, [], length, get_or, refl, sym, ◌∙◌, ap, subst, arith, inl, inr, ⊎_elim}
+use Rattle.std.proofs.Common.{◌≡◌, ℕ, suc, ◌+◌, ◌-◌, ◌*◌, ◌<◌, ◌≤◌, ℤ, pos, List, [], length, get_or, sym, ◌∙◌, ap, subst, arith, inl, ⊎_elim}
 use Rattle.std.specs.Prelude.{◌⊎◌, reverse}
 use Rattle.std.proofs.lemmas.Bool.{cases_lt}
 use Rattle.players.specs.declared.leaving.Leaving.{Leaving}
@@ -29,8 +29,8 @@ frames_more e n channels output k output' output'' w len row rest = record {
   len = len ∙ w.len;
   samples = λ j c lj lc.
       ⊎_elim
-        (λ (less : j < k). let b = row_within j k channels less in rest (j * channels + c) (inl (omega arith)) ∙ w.samples j c less lc)
-        (λ (le : k ≤ j). let same : j ≡ k = omega arith in
-          subst (λ z. get_or output'' (z * channels + c) (pos 0) ≡ get_or (reverse (get_or e.lines.items c [])) (n - 1 - z) (pos 0)) (sym same) (row c lc))
-        (cases_lt j k);
+      (λ (less : j < k). let b = row_within j k channels less in rest (j * channels + c) (inl (omega arith)) ∙ w.samples j c less lc)
+      (λ (le : k ≤ j). let same : j ≡ k = omega arith in
+      subst (λ z. get_or output'' (z * channels + c) (pos 0) ≡ get_or (reverse (get_or e.lines.items c [])) (n - 1 - z) (pos 0)) (sym same) (row c lc))
+      (cases_lt j k);
 }

@@ -7,7 +7,7 @@ use Rattle.pool_waves.specs.declared.job.Job.{Job}
 use Rattle.engine_model.specs.Engines.{Job as Seen, Parts}
 use Rattle.players.specs.declared.playing.Player.{Player}
 use Rattle.players.specs.declared.playing.Server.{Server}
-use Rattle.players.specs.declared.playing.Server.TheVariants.{Entry, Exit, Between}
+use Rattle.players.specs.declared.playing.Server.TheVariants.{Exit, Between}
 
 -- what the kernel of a node between the ends keeps
 abbrev pub kernel_of : Server → KernelKept
@@ -33,14 +33,14 @@ began frames j = record {
   index = j.index;
   desk = j.desk;
   part = record {
-      wires = j.part.wires;
-      lines = j.part.lines;
-      silent = j.part.silent;
-      server = from_now frames j.part.server;
-      ins = j.part.ins;
-      outs = j.part.outs;
-      sums = j.part.sums;
-      told = j.part.told;
-      spare = j.part.spare;
+    wires = j.part.wires;
+    lines = j.part.lines;
+    silent = j.part.silent;
+    server = from_now frames j.part.server;
+    ins = j.part.ins;
+    outs = j.part.outs;
+    sums = j.part.sums;
+    told = j.part.told;
+    spare = j.part.spare;
   };
 }

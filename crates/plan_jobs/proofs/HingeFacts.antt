@@ -1,8 +1,8 @@
 -- A wave of jobs runs as the frame events of its nodes, in whatever order.
-use Rattle.std.proofs.Common.{◌≡◌, ◌≢◌, ℕ, ◌+◌, ◌-◌, ◌<◌, ◌≤◌, zero, suc, cond, Bool, true, false, ℤ, pos, List, [], ◌∷◌, length, map, get_or, refl, sym, ◌∙◌, ap, subst, arith, inl, inr, ⊎_elim, Option, Some, None, ◌==◌}
-use Rattle.std.specs.Prelude.{◌⊎◌, slice_get}
-use Rattle.std.specs.List.{Contains, range_with_len}
-use Rattle.std.proofs.lemmas.Bool.{cases_eq, cases_lt, cases_Bool, or_left, or_right}
+use Rattle.std.proofs.Common.{◌≡◌, ℕ, ◌+◌, ◌<◌, zero, suc, cond, Bool, true, false, ℤ, pos, List, [], ◌∷◌, length, map, get_or, refl, sym, ◌∙◌, ap, subst, arith, inr, ⊎_elim, Option, Some, None, ◌==◌}
+use Rattle.std.specs.Prelude.{slice_get}
+use Rattle.std.specs.List.{Contains}
+use Rattle.std.proofs.lemmas.Bool.{cases_lt, or_left, or_right}
 use Rattle.std.proofs.lemmas.List.{get_or-map, length-map, get_or_default}
 use Rattle.std.proofs.lemmas.List.Elements.{Contains-get_or}
 use Rattle.graph_model.specs.Histories.{Frame, History, newest}
@@ -11,7 +11,7 @@ use Rattle.graph_model.specs.Bounds.{bounds}
 use Rattle.graph_model.specs.Graphs.{node_named, ins_at, is_input, is_output}
 use Rattle.graph_model.specs.Sound.{IsSound}
 use Rattle.graph_model.specs.declared.kind.Kind.{Kind}
-use Rattle.graph_model.specs.declared.kind.Kind.TheVariants.{Input, Output, Gain, Mixer, Fir, Biquad, Limiter, Delay, Insert}
+use Rattle.graph_model.specs.declared.kind.Kind.TheVariants.{Input, Output}
 use Rattle.graph_model.specs.declared.graph.Node.{Node}
 use Rattle.graph_model.specs.declared.graph.Bound.{Bound}
 use Rattle.graph_model.specs.declared.graph.Graph.{Graph}
@@ -19,12 +19,11 @@ use Rattle.plan_model.specs.Certified.{IsCertified, positions}
 use Rattle.plan_model.specs.Schedules.{names}
 use Rattle.plan_model.specs.declared.plan.Plan.{Plan}
 use Rattle.plan_model.specs.declared.schedule.Wave.{Wave}
-use Rattle.plan_model.specs.declared.buffers.Home.{Home as PlanHome}
 use Rattle.orders.specs.Orders as core
 use Rattle.graph_model.proofs.PathLaws.{same_name}
 use Rattle.engine_model.specs.Machines.{Kept, passed_then, summed, taken, takes_in, made, machine, sources, homes_at, channels_into, delays_into}
 use Rattle.engine_model.proofs.Plans.{is_in_of, of_is_in}
-use Rattle.engine_model.proofs.Runs.{apart, value_of, read_alone, one_home, node_in}
+use Rattle.engine_model.proofs.Runs.{value_of, read_alone, one_home, node_in}
 use Rattle.orders.proofs.Counts.{writer}
 use Rattle.std.specs.Prelude.{◌||◌}
 use Rattle.std.proofs.lemmas.Bool.{eqb-true}
@@ -32,7 +31,7 @@ use Rattle.graph_model.proofs.PathLaws.{at_tail}
 use Rattle.pool_waves.specs.declared.job.Home.{Home}
 use Rattle.pool_waves.specs.declared.job.Desk.{Desk}
 use Rattle.pool_waves.specs.declared.job.Job.{Job}
-use Rattle.pool_waves.specs.Exchanges.{desks, AreApart}
+use Rattle.pool_waves.specs.Exchanges.{desks}
 use Rattle.pool_waves.specs.Waves.{IsFree, IsLent, WaveRan}
 use Rattle.pool_waves.specs.Waves as waves
 use Rattle.pool_waves.proofs.ExchangeFacts.{desk_at}
@@ -40,9 +39,9 @@ use Rattle.players.specs.declared.gathering.Wire.{Wire}
 use Rattle.players.specs.declared.playing.Server.{Server}
 use Rattle.players.specs.declared.playing.Server.TheVariants.{Entry, Exit, Between}
 use Rattle.players.specs.declared.playing.Player.{Player}
-use Rattle.players.specs.Reads.{source, own_or, channels_of}
+use Rattle.players.specs.Reads.{own_or, channels_of}
 use Rattle.players.specs.Servers.{taken_by, given_by}
-use Rattle.players.specs.Plays.{samples, step_of, run_from, delays_of, Holds, HasPlayed, PlayerDone}
+use Rattle.players.specs.Plays.{samples, step_of, run_from, delays_of, Holds, PlayerDone}
 use Rattle.plan_jobs.specs.Jobs.{core_home, IsOwnRight, Serves, IsPlayerOf}
 use Rattle.plan_jobs.specs.Hinges.{AreJobsOf, AreAt}
 
@@ -87,9 +86,9 @@ module _ (g : Graph) (p : ℕ → ℕ) (plan : Plan) (block : ℕ → Frame) (v 
   step_is : (k : ℕ) (s : Kept) (xs : List ℤ) → step_of a block k s xs ≡ takes_in g p block v k s (passed_then xs s.passed)
   step_is k s xs =
       let f : summed a.ins (channels_of a.wires.items) (delays_of a) (passed_then xs s.passed) ≡ summed (ins_at g v) (channels_into g v) (delays_into g p v) (passed_then xs s.passed) =
-        ap (λ m. summed m (channels_of a.wires.items) (delays_of a) (passed_then xs s.passed)) is.ins
-        ∙ ap (λ cs. summed (ins_at g v) cs (delays_of a) (passed_then xs s.passed)) is.channels
-        ∙ ap (λ ds. summed (ins_at g v) (channels_into g v) ds (passed_then xs s.passed)) is.delays in
+      ap (λ m. summed m (channels_of a.wires.items) (delays_of a) (passed_then xs s.passed)) is.ins
+      ∙ ap (λ cs. summed (ins_at g v) cs (delays_of a) (passed_then xs s.passed)) is.channels
+      ∙ ap (λ ds. summed (ins_at g v) (channels_into g v) ds (passed_then xs s.passed)) is.delays in
       let t = ap (taken_by a.server block k) f ∙ serves_taken g p block v k (passed_then xs s.passed) (node_named g v) (bounds g v) a.server is.server n named in
       ap (λ z. record { came = z ∷ s.came; passed = passed_then xs s.passed }) t
 
@@ -133,12 +132,12 @@ module _ (g : Graph) (p : ℕ → ℕ) (plan : Plan) (block : ℕ → Frame) (v 
     pub reads_are : (k : ℕ) → samples q (waves.taken pool homes) a.wires.items k ≡ core.samples_of (sources g plan.homes v) k st.pool
     reads_are k =
         reads_from a.wires.items
-          (λ i lt.
-            let at : get_or (map (λ (w : Wire). w.buffer) a.wires.items) i 0 ≡ (get_or a.wires.items i no_wire).buffer = get_or-map (λ (w : Wire). w.buffer) a.wires.items i no_wire 0 lt in
-            subst (λ b. core.is_read (sources g plan.homes v) b ≡ true) at
-              (subst (λ bs. core.is_read (sources g plan.homes v) (get_or bs i 0) ≡ true) (sym is.buffers)
-                (is_read_at (sources g plan.homes v) i (subst (λ bs. i < length bs) is.buffers (subst (λ m. i < m) (sym (length-map a.wires.items (λ (w : Wire). w.buffer))) lt)))))
-          (λ i lt. is.own i no_wire lt) k
+        (λ i lt.
+        let at : get_or (map (λ (w : Wire). w.buffer) a.wires.items) i 0 ≡ (get_or a.wires.items i no_wire).buffer = get_or-map (λ (w : Wire). w.buffer) a.wires.items i no_wire 0 lt in
+        subst (λ b. core.is_read (sources g plan.homes v) b ≡ true) at
+        (subst (λ bs. core.is_read (sources g plan.homes v) (get_or bs i 0) ≡ true) (sym is.buffers)
+        (is_read_at (sources g plan.homes v) i (subst (λ bs. i < length bs) is.buffers (subst (λ m. i < m) (sym (length-map a.wires.items (λ (w : Wire). w.buffer))) lt)))))
+        (λ i lt. is.own i no_wire lt) k
         ∙ ap (λ bs. core.samples_of bs k st.pool) is.buffers
 
 -- ---- homes of a desk
@@ -183,10 +182,12 @@ module _ (g : Graph) (plan : Plan) (sound : IsSound g) (c : IsCertified g plan) 
   desk_job i o d e li lo =
       let lt : i < length jobs = subst (λ z. i < z) (length-map jobs (λ (j : Job Player). j.desk)) li in
       let j = pick jobs i lt in
-      let same = desk_at jobs i (pick jobs i lt) d lt in
-      (lt, sym (writes_same i (pick jobs i lt) lt (get_or (get_or (desks jobs) i d).homes.items o e).buffer)
-        ∙ ap (λ (v : Desk). core.writes (map core_home v.homes.items) (get_or (get_or (desks jobs) i d).homes.items o e).buffer) (sym same)
-        ∙ desk_writes (get_or (desks jobs) i d).homes.items o e lo)
+      let same = desk_at jobs i (pick jobs i lt) d lt in (
+        lt,
+        sym (writes_same i (pick jobs i lt) lt (get_or (get_or (desks jobs) i d).homes.items o e).buffer)
+            ∙ ap (λ (v : Desk). core.writes (map core_home v.homes.items) (get_or (get_or (desks jobs) i d).homes.items o e).buffer) (sym same)
+            ∙ desk_writes (get_or (desks jobs) i d).homes.items o e lo,
+      )
 
   -- what a job reads and does not own, no value of the wave stands in
   pub is_free : (i : ℕ) (d : Job Player) → i < length jobs → (b : ℕ) → core.is_read (sources g plan.homes (get_or (names w) i 0)) b ≡ true
@@ -205,7 +206,7 @@ module _ (g : Graph) (plan : Plan) (sound : IsSound g) (c : IsCertified g plan) 
   reads_same q lent i d lt k =
       let m = node_in g plan sound c (positions plan) block k0 (get_or (names w) i 0) w at (in_it i lt) in
       reads_are g (positions plan) plan block (get_or (names w) i 0) (get_or jobs i d).desk.homes.items (get_or jobs i d).part (js.each i d lt) m.0 m.1
-        st pool q here.samples (λ b r own. lent.free b (is_free i d lt b r own)) k
+      st pool q here.samples (λ b r own. lent.free b (is_free i d lt b r own)) k
 
   pub run_same_as : (q : List (List ℤ)) → IsLent (desks jobs) pool q → (i : ℕ) (d : Job Player) → i < length jobs → (m : ℕ)
       → run_from (get_or jobs i d).part block (samples q (waves.taken pool (get_or jobs i d).desk.homes.items) (get_or jobs i d).part.wires.items) 0 m (st.kept (get_or (names w) i 0))
@@ -213,7 +214,7 @@ module _ (g : Graph) (plan : Plan) (sound : IsSound g) (c : IsCertified g plan) 
   run_same_as q lent i d lt m =
       let nd = node_in g plan sound c (positions plan) block k0 (get_or (names w) i 0) w at (in_it i lt) in
       run_is g (positions plan) plan block (get_or (names w) i 0) (get_or jobs i d).desk.homes.items (get_or jobs i d).part (js.each i d lt) nd.0 nd.1 st
-        (samples q (waves.taken pool (get_or jobs i d).desk.homes.items) (get_or jobs i d).part.wires.items) m (λ k l. reads_same q lent i d lt k)
+      (samples q (waves.taken pool (get_or jobs i d).desk.homes.items) (get_or jobs i d).part.wires.items) m (λ k l. reads_same q lent i d lt k)
 
   module _ (pool' : List (List ℤ)) (jobs' : List (Job Player)) (ran : WaveRan (λ q hs os a os' b. PlayerDone block n q hs os a os' b) pool jobs pool' jobs')
       (st' : core.State Kept) (run : core.WaveHasRun (machine g (positions plan) plan.homes block) n (names w) st st') where
@@ -221,8 +222,8 @@ module _ (g : Graph) (plan : Plan) (sound : IsSound g) (c : IsCertified g plan) 
     holds_then i d l' =
         let lt : i < length jobs = subst (λ z. i < z) ran.jobs_len l' in
         subst (Holds (get_or jobs' i d).part)
-          (run_same_as ran.left ran.lent i d lt n ∙ sym (run.kept (get_or (names w) i 0) (in_it i lt)))
-          ((ran.ran i d lt).played.holds (st.kept (get_or (names w) i 0)) (here.holds i d lt))
+        (run_same_as ran.left ran.lent i d lt n ∙ sym (run.kept (get_or (names w) i 0) (in_it i lt)))
+        ((ran.ran i d lt).played.holds (st.kept (get_or (names w) i 0)) (here.holds i d lt))
 
     written_at : (i : ℕ) (d : Job Player) (lt : i < length jobs) (o : ℕ) (e : Home) → o < length (get_or jobs i d).desk.homes.items → (k : ℕ)
         → st'.pool (get_or (get_or jobs i d).desk.homes.items o e).buffer k ≡ get_or (get_or pool' (get_or (get_or jobs i d).desk.homes.items o e).buffer []) k (pos 0)
@@ -238,61 +239,61 @@ module _ (g : Graph) (plan : Plan) (sound : IsSound g) (c : IsCertified g plan) 
         let nd = node_in g plan sound c (positions plan) block k0 (get_or (names w) i 0) w at (in_it i lt) in
         let has : Contains (homes_at plan.homes (get_or (names w) i 0)) (core_home (get_or (get_or jobs i d).desk.homes.items o e)) = subst (λ z. Contains z (core_home (get_or (get_or jobs i d).desk.homes.items o e))) j.homes_are (desk_has (get_or jobs i d).desk.homes.items o e lo) in
         ⊎_elim
-          (λ small.
-            run.written (get_or (names w) i 0) (get_or (get_or jobs i d).desk.homes.items o e).buffer k (in_it i lt) wr small
-            ∙ value_of (homes_at plan.homes (get_or (names w) i 0)) (core_home (get_or (get_or jobs i d).desk.homes.items o e)) (core.told (machine g (positions plan) plan.homes block) st (get_or (names w) i 0) k) has
-              (λ a ca same. one_home g plan sound c (positions plan) block (get_or (names w) i 0) a (core_home (get_or (get_or jobs i d).desk.homes.items o e)) ca has same)
-            ∙ ap (λ (z : Kept). get_or (made (node_named g (get_or (names w) i 0)) z.came) (get_or (get_or jobs i d).desk.homes.items o e).channel (pos 0)) (sym (run_same_as ran.left ran.lent i d lt (suc k)))
-            ∙ ap (λ f. get_or f (get_or (get_or jobs i d).desk.homes.items o e).channel (pos 0)) (sym (given_is g (positions plan) plan block (get_or (names w) i 0) (get_or jobs i d).desk.homes.items (get_or jobs i d).part j nd.0 nd.1 _))
-            ∙ sym (done.written (st.kept (get_or (names w) i 0)) o k e (here.holds i d lt) lo small)
-            ∙ (let z : 0 + k ≡ k = omega arith in ap (λ t. get_or (get_or (waves.taken pool' (get_or jobs i d).desk.homes.items) o []) t (pos 0)) z)
-            ∙ ap (λ l. get_or l k (pos 0)) out)
-          (λ big.
-            run.rest (get_or (get_or jobs i d).desk.homes.items o e).buffer k big ∙ here.samples (get_or (get_or jobs i d).desk.homes.items o e).buffer k
-            ∙ ap (λ l. get_or l k (pos 0)) (sym out0)
-            ∙ sym (done.rest o k (inr (omega arith))) ∙ ap (λ l. get_or l k (pos 0)) out)
-          (cases_lt k n)
+        (λ small.
+        run.written (get_or (names w) i 0) (get_or (get_or jobs i d).desk.homes.items o e).buffer k (in_it i lt) wr small
+        ∙ value_of (homes_at plan.homes (get_or (names w) i 0)) (core_home (get_or (get_or jobs i d).desk.homes.items o e)) (core.told (machine g (positions plan) plan.homes block) st (get_or (names w) i 0) k) has
+        (λ a ca same. one_home g plan sound c (positions plan) block (get_or (names w) i 0) a (core_home (get_or (get_or jobs i d).desk.homes.items o e)) ca has same)
+        ∙ ap (λ (z : Kept). get_or (made (node_named g (get_or (names w) i 0)) z.came) (get_or (get_or jobs i d).desk.homes.items o e).channel (pos 0)) (sym (run_same_as ran.left ran.lent i d lt (suc k)))
+        ∙ ap (λ f. get_or f (get_or (get_or jobs i d).desk.homes.items o e).channel (pos 0)) (sym (given_is g (positions plan) plan block (get_or (names w) i 0) (get_or jobs i d).desk.homes.items (get_or jobs i d).part j nd.0 nd.1 _))
+        ∙ sym (done.written (st.kept (get_or (names w) i 0)) o k e (here.holds i d lt) lo small)
+        ∙ (let z : 0 + k ≡ k = omega arith in ap (λ t. get_or (get_or (waves.taken pool' (get_or jobs i d).desk.homes.items) o []) t (pos 0)) z)
+        ∙ ap (λ l. get_or l k (pos 0)) out)
+        (λ big.
+        run.rest (get_or (get_or jobs i d).desk.homes.items o e).buffer k big ∙ here.samples (get_or (get_or jobs i d).desk.homes.items o e).buffer k
+        ∙ ap (λ l. get_or l k (pos 0)) (sym out0)
+        ∙ sym (done.rest o k (inr (omega arith))) ∙ ap (λ l. get_or l k (pos 0)) out)
+        (cases_lt k n)
 
     samples_then : (b k : ℕ) → st'.pool b k ≡ get_or (get_or pool' b []) k (pos 0)
     samples_then b k =
         ⊎_elim
-          (λ r.
-            let has = of_is_in r.0 (names w) r.1 in
-            let lt : has.0 < length jobs = subst (λ z. has.0 < z) (sym js.len) has.1 in
-            let d = pick jobs has.0 lt in
-            let name : get_or (names w) has.0 0 ≡ r.0 = get_or_default (names w) has.0 0 r.0 has.1 ∙ has.2 in
-            let mine : core.writes (map core_home (get_or jobs has.0 (pick jobs has.0 lt)).desk.homes.items) b ≡ true = writes_same has.0 (pick jobs has.0 lt) lt b ∙ ap (λ v. core.writes (homes_at plan.homes v) b) name ∙ r.2 in
-            let q = home_index (get_or jobs has.0 (pick jobs has.0 lt)).desk.homes.items b mine in
-            subst (λ z. st'.pool z k ≡ get_or (get_or pool' z []) k (pos 0)) (q.2 no_home) (written_at has.0 (pick jobs has.0 lt) lt q.0 no_home q.1 k))
-          (λ none.
-            let free : IsFree (desks jobs) b = λ j o f e lj lo same.
-                let dj = desk_job j o f e lj lo in
-                let wr : core.writes (homes_at plan.homes (get_or (names w) j 0)) b ≡ true = subst (λ z. core.writes (homes_at plan.homes (get_or (names w) j 0)) z ≡ true) same dj.1 in
-                let no = none (get_or (names w) j 0) (in_it j dj.0) in absurd (cc) in
-            run.others b k none ∙ here.samples b k ∙ ap (λ l. get_or l k (pos 0)) (sym (ran.others b free)))
-          (writer (λ v. homes_at plan.homes v) (names w) b)
+        (λ r.
+        let has = of_is_in r.0 (names w) r.1 in
+        let lt : has.0 < length jobs = subst (λ z. has.0 < z) (sym js.len) has.1 in
+        let d = pick jobs has.0 lt in
+        let name : get_or (names w) has.0 0 ≡ r.0 = get_or_default (names w) has.0 0 r.0 has.1 ∙ has.2 in
+        let mine : core.writes (map core_home (get_or jobs has.0 (pick jobs has.0 lt)).desk.homes.items) b ≡ true = writes_same has.0 (pick jobs has.0 lt) lt b ∙ ap (λ v. core.writes (homes_at plan.homes v) b) name ∙ r.2 in
+        let q = home_index (get_or jobs has.0 (pick jobs has.0 lt)).desk.homes.items b mine in
+        subst (λ z. st'.pool z k ≡ get_or (get_or pool' z []) k (pos 0)) (q.2 no_home) (written_at has.0 (pick jobs has.0 lt) lt q.0 no_home q.1 k))
+        (λ none.
+        let free : IsFree (desks jobs) b = λ j o f e lj lo same.
+        let dj = desk_job j o f e lj lo in
+        let wr : core.writes (homes_at plan.homes (get_or (names w) j 0)) b ≡ true = subst (λ z. core.writes (homes_at plan.homes (get_or (names w) j 0)) z ≡ true) same dj.1 in
+        let no = none (get_or (names w) j 0) (in_it j dj.0) in absurd (cc) in
+        run.others b k none ∙ here.samples b k ∙ ap (λ l. get_or l k (pos 0)) (sym (ran.others b free)))
+        (writer (λ v. homes_at plan.homes v) (names w) b)
 
     pub lengths_then : (b : ℕ) → length (get_or pool' b []) ≡ length (get_or pool b [])
     lengths_then b =
         ⊎_elim
-          (λ r.
-            let has = of_is_in r.0 (names w) r.1 in
-            let lt : has.0 < length jobs = subst (λ z. has.0 < z) (sym js.len) has.1 in
-            let name : get_or (names w) has.0 0 ≡ r.0 = get_or_default (names w) has.0 0 r.0 has.1 ∙ has.2 in
-            let mine : core.writes (map core_home (get_or jobs has.0 (pick jobs has.0 lt)).desk.homes.items) b ≡ true = writes_same has.0 (pick jobs has.0 lt) lt b ∙ ap (λ v. core.writes (homes_at plan.homes v) b) name ∙ r.2 in
-            let q = home_index (get_or jobs has.0 (pick jobs has.0 lt)).desk.homes.items b mine in
-            let hs = (get_or jobs has.0 (pick jobs has.0 lt)).desk.homes.items in
-            let out = get_or-map (λ (z : Home). get_or pool' z.buffer []) (get_or jobs has.0 (pick jobs has.0 lt)).desk.homes.items q.0 no_home [] q.1 in
-            let out0 = get_or-map (λ (z : Home). get_or pool z.buffer []) (get_or jobs has.0 (pick jobs has.0 lt)).desk.homes.items q.0 no_home [] q.1 in
-            subst (λ z. length (get_or pool' z []) ≡ length (get_or pool z [])) (q.2 no_home)
-              (sym (ap length out) ∙ (ran.ran has.0 (pick jobs has.0 lt) lt).played.lengths q.0 ∙ ap length out0))
-          (λ none.
-            let free : IsFree (desks jobs) b = λ j o f e lj lo same.
-                let dj = desk_job j o f e lj lo in
-                let wr : core.writes (homes_at plan.homes (get_or (names w) j 0)) b ≡ true = subst (λ z. core.writes (homes_at plan.homes (get_or (names w) j 0)) z ≡ true) same dj.1 in
-                let no = none (get_or (names w) j 0) (in_it j dj.0) in absurd (cc) in
-            ap length (ran.others b free))
-          (writer (λ v. homes_at plan.homes v) (names w) b)
+        (λ r.
+        let has = of_is_in r.0 (names w) r.1 in
+        let lt : has.0 < length jobs = subst (λ z. has.0 < z) (sym js.len) has.1 in
+        let name : get_or (names w) has.0 0 ≡ r.0 = get_or_default (names w) has.0 0 r.0 has.1 ∙ has.2 in
+        let mine : core.writes (map core_home (get_or jobs has.0 (pick jobs has.0 lt)).desk.homes.items) b ≡ true = writes_same has.0 (pick jobs has.0 lt) lt b ∙ ap (λ v. core.writes (homes_at plan.homes v) b) name ∙ r.2 in
+        let q = home_index (get_or jobs has.0 (pick jobs has.0 lt)).desk.homes.items b mine in
+        let hs = (get_or jobs has.0 (pick jobs has.0 lt)).desk.homes.items in
+        let out = get_or-map (λ (z : Home). get_or pool' z.buffer []) (get_or jobs has.0 (pick jobs has.0 lt)).desk.homes.items q.0 no_home [] q.1 in
+        let out0 = get_or-map (λ (z : Home). get_or pool z.buffer []) (get_or jobs has.0 (pick jobs has.0 lt)).desk.homes.items q.0 no_home [] q.1 in
+        subst (λ z. length (get_or pool' z []) ≡ length (get_or pool z [])) (q.2 no_home)
+        (sym (ap length out) ∙ (ran.ran has.0 (pick jobs has.0 lt) lt).played.lengths q.0 ∙ ap length out0))
+        (λ none.
+        let free : IsFree (desks jobs) b = λ j o f e lj lo same.
+        let dj = desk_job j o f e lj lo in
+        let wr : core.writes (homes_at plan.homes (get_or (names w) j 0)) b ≡ true = subst (λ z. core.writes (homes_at plan.homes (get_or (names w) j 0)) z ≡ true) same dj.1 in
+        let no = none (get_or (names w) j 0) (in_it j dj.0) in absurd (cc) in
+        ap length (ran.others b free))
+        (writer (λ v. homes_at plan.homes v) (names w) b)
 
     -- **the jobs and the pool are as the events of the wave leave them**
     pub wave_is : AreAt (names w) jobs' pool' st'

@@ -36,16 +36,16 @@ pub one_made : (g : Graph) (plan : Plan) (vs : List ℕ) (jobs : List (Job Playe
 one_made g plan vs jobs v j a is = record {
   len = length-append jobs (j ∷ []) ∙ ap (λ n. n + 1) a.len ∙ sym (length-append vs (v ∷ []));
   each = λ i d lt.
-    let l = length-append jobs (j ∷ []) in
-    let al = a.len in
-    ⊎_elim
+      let l = length-append jobs (j ∷ []) in
+      let al = a.len in
+      ⊎_elim
       (λ (before : i < length jobs).
-        subst (λ u. IsNewJob g plan u (get_or (jobs ++ j ∷ []) i d)) (sym (get_or_append_left vs (v ∷ []) 0 i (omega arith)))
-          (subst (λ (k : Job Player). IsNewJob g plan (get_or vs i 0) k) (sym (get_or_append_left jobs (j ∷ []) d i before)) (a.each i d before)))
+      subst (λ u. IsNewJob g plan u (get_or (jobs ++ j ∷ []) i d)) (sym (get_or_append_left vs (v ∷ []) 0 i (omega arith)))
+      (subst (λ (k : Job Player). IsNewJob g plan (get_or vs i 0) k) (sym (get_or_append_left jobs (j ∷ []) d i before)) (a.each i d before)))
       (λ (last : length jobs ≤ i).
-        let z : i - length jobs ≡ 0 = omega arith in
-        subst (λ u. IsNewJob g plan u (get_or (jobs ++ j ∷ []) i d)) (sym (get_or-append_right vs (v ∷ []) (length jobs) i 0 (sym al) (omega arith) ∙ ap (λ k. get_or (v ∷ []) k 0) z))
-          (subst (λ (k : Job Player). IsNewJob g plan v k) (sym (get_or-append_right jobs (j ∷ []) (length jobs) i d refl (omega arith) ∙ ap (λ k. get_or (j ∷ []) k d) z)) is))
+      let z : i - length jobs ≡ 0 = omega arith in
+      subst (λ u. IsNewJob g plan u (get_or (jobs ++ j ∷ []) i d)) (sym (get_or-append_right vs (v ∷ []) (length jobs) i 0 (sym al) (omega arith) ∙ ap (λ k. get_or (v ∷ []) k 0) z))
+      (subst (λ (k : Job Player). IsNewJob g plan v k) (sym (get_or-append_right jobs (j ∷ []) (length jobs) i d refl (omega arith) ∙ ap (λ k. get_or (j ∷ []) k d) z)) is))
       (cases_lt i (length jobs));
 }
 
@@ -70,10 +70,10 @@ wave_more g plan first us i jobs j d lt so is vs a =
     let lm = length-map us (λ (u : Uid). u.0) in
     let at : get_or (map (λ (u : Uid). u.0) us) i 0 ≡ (get_or us i d).0 = get_or-map (λ (u : Uid). u.0) us i d 0 lt in
     subst (λ ws. AreNewJobs g plan ws (jobs ++ j ∷ []))
-      (append_twice vs (take i (map (λ u. u.0) us)) ((get_or us i d).0 ∷ [])
-       ∙ ap (λ z. vs ++ (take i (map (λ u. u.0) us) ++ z ∷ [])) (sym at)
-       ∙ ap (λ z. vs ++ z) (sym (take_more (map (λ u. u.0) us) i 0 (omega arith))))
-      (one_made g plan (vs ++ take i (map (λ u. u.0) us)) jobs (get_or us i d).0 j (so vs a) is)
+    (append_twice vs (take i (map (λ u. u.0) us)) ((get_or us i d).0 ∷ [])
+    ∙ ap (λ z. vs ++ (take i (map (λ u. u.0) us) ++ z ∷ [])) (sym at)
+    ∙ ap (λ z. vs ++ z) (sym (take_more (map (λ u. u.0) us) i 0 (omega arith))))
+    (one_made g plan (vs ++ take i (map (λ u. u.0) us)) jobs (get_or us i d).0 j (so vs a) is)
 
 pub wave_none : (g : Graph) (plan : Plan) (first : List (Job Player)) (ns : List ℕ) (vs : List ℕ) → AreNewJobs g plan vs first → AreNewJobs g plan (vs ++ take 0 ns) first
 wave_none g plan first ns vs a = subst (λ z. AreNewJobs g plan z first) (sym (append-nil vs)) a
@@ -107,14 +107,14 @@ pub one_end : (plan : Plan) (k : ℕ) (ends : List ℕ) (x : ℕ) → AreEnds pl
 one_end plan k ends x e is = record {
   len = length-append ends (x ∷ []) ∙ ap (λ n. n + 1) e.len;
   at = λ i le.
-    let l = length-append ends (x ∷ []) in
-    let el = e.len in
-    ⊎_elim
+      let l = length-append ends (x ∷ []) in
+      let el = e.len in
+      ⊎_elim
       (λ (less : i < length (0 ∷ ends)). get_or_append_left (0 ∷ ends) (x ∷ []) 0 i less ∙ e.at i (omega arith))
       (λ (last : length (0 ∷ ends) ≤ i).
-        let z : i - length (0 ∷ ends) ≡ 0 = omega arith in
-        let at : k + 1 ≡ i = omega arith in
-        get_or-append_right (0 ∷ ends) (x ∷ []) (length (0 ∷ ends)) i 0 refl last ∙ ap (λ j. get_or (x ∷ []) j 0) z ∙ is ∙ ap (λ j. length (nodes_before plan j)) at)
+      let z : i - length (0 ∷ ends) ≡ 0 = omega arith in
+      let at : k + 1 ≡ i = omega arith in
+      get_or-append_right (0 ∷ ends) (x ∷ []) (length (0 ∷ ends)) i 0 refl last ∙ ap (λ j. get_or (x ∷ []) j 0) z ∙ is ∙ ap (λ j. length (nodes_before plan j)) at)
       (cases_lt i (length (0 ∷ ends)));
 }
 
@@ -122,8 +122,8 @@ one_end plan k ends x e is = record {
 pub wave_live : (g : Graph) (plan : Plan) → IsSound g → IsCertified g plan → (k : ℕ) (d : Wave) → k < length plan.waves → All (λ (u : Uid). is_live g u.0 ≡ true) (get_or plan.waves k d).nodes
 wave_live g plan sound c k d lt i u li =
     on_in g plan sound c (positions plan) (λ (_ : ℕ). no_frame) k (get_or (get_or plan.waves k d).nodes i u).0 (get_or plan.waves k d) (slice_get-get_or plan.waves k d lt)
-      (is_in_of (get_or (get_or plan.waves k d).nodes i u).0 (names (get_or plan.waves k d))
-        (Contains-map (λ (u : Uid). u.0) (get_or plan.waves k d).nodes (get_or (get_or plan.waves k d).nodes i u) (Contains-get_or (get_or plan.waves k d).nodes i u li)))
+    (is_in_of (get_or (get_or plan.waves k d).nodes i u).0 (names (get_or plan.waves k d))
+    (Contains-map (λ (u : Uid). u.0) (get_or plan.waves k d).nodes (get_or (get_or plan.waves k d).nodes i u) (Contains-get_or (get_or plan.waves k d).nodes i u li)))
   where
     no_frame : Frame
     no_frame = []

@@ -1,6 +1,6 @@
 -- Lists that are made entry by entry, of those that pass a test.
-use Rattle.std.proofs.Common.{◌≡◌, ℕ, ◌+◌, ◌<◌, ◌≤◌, zero, suc, Bool, true, false, cond, ℤ, pos, List, [], ◌∷◌, ◌++◌, length, map, take, replicate, get_or, refl, sym, ◌∙◌, ap, subst, arith, add-one, ◌==◌, inl, inr, ⊎_elim, Option}
-use Rattle.std.proofs.Common.{◌*◌, Some, None}
+use Rattle.std.proofs.Common.{◌≡◌, ℕ, ◌+◌, ◌<◌, ◌≤◌, zero, suc, Bool, true, false, cond, pos, List, [], ◌∷◌, ◌++◌, length, map, take, replicate, get_or, refl, sym, ◌∙◌, ap, subst, arith, add-one, ◌==◌, inl, inr, ⊎_elim}
+use Rattle.std.proofs.Common.{◌*◌, Some}
 use Rattle.std.specs.List.{filter, All, Contains}
 use Rattle.std.specs.Prelude.{not, reverse, ◌-◌}
 use Rattle.players.specs.Reads.{channels_of, is_fed}
@@ -14,26 +14,21 @@ use Rattle.graph_model.proofs.ReachLaws.{filter_from}
 use Rattle.graph_model.specs.Histories.{window}
 use Rattle.graph_model.specs.Kinds.{ins_of, outs_of}
 use Rattle.graph_model.specs.Bounds.{bounds}
-use Rattle.graph_model.specs.Graphs.{node_named, or_zero, is_input, is_output, connections_into}
-use Rattle.graph_model.specs.declared.kind.Kind.{Kind}
-use Rattle.graph_model.specs.declared.kind.Kind.TheVariants.{Input, Output, Gain, Mixer, Fir, Biquad, Limiter, Delay, Insert}
+use Rattle.graph_model.specs.Graphs.{node_named, or_zero, connections_into}
 use Rattle.graph_model.specs.declared.graph.Node.{Node}
 use Rattle.graph_model.specs.declared.graph.Bound.{Bound}
 use Rattle.engine_model.specs.Machines.{windows_on}
 use Rattle.engine_model.specs.Machines.{delays_into}
 use Rattle.players.specs.declared.playing.Player.{Player}
-use Rattle.players.specs.declared.playing.Server.{Server}
-use Rattle.players.specs.declared.playing.Server.TheVariants.{Entry, Exit, Between}
 use Rattle.players.specs.Servers.{FitsServer, ServerHolds}
 use Rattle.players.specs.Plays.{delays_of}
 use Rattle.plan_jobs.specs.Jobs.{Serves, IsNewPlayer}
-use Rattle.std.proofs.lemmas.List.{map-append, length-append, get_or_append_left, get_or-append_right, get_or_default, take_all}
+use Rattle.std.proofs.lemmas.List.{length-append, get_or_append_left, take_all}
 use Rattle.std.proofs.lemmas.Bool.{cond-true, cond-false, cases_lt}
 use Rattle.graph_model.specs.declared.graph.Connection.{Connection}
 use Rattle.graph_model.specs.declared.graph.Graph.{Graph}
 use Rattle.graph_model.specs.Answers.{delay}
 use Rattle.plan_model.specs.declared.buffers.Home.{Home as PlanHome}
-use Rattle.orders.specs.Orders as core
 use Rattle.engine_model.specs.Machines.{homes_at, buffer_for}
 use Rattle.pool_waves.specs.declared.job.Home.{Home}
 use Rattle.players.specs.declared.gathering.Wire.{Wire}
@@ -77,27 +72,27 @@ wires_more cs homes own v ws i d w lt t b ch right first a =
       channels = map_more (λ (u : Wire). u.channel) ws w ∙ ap (λ z. z ++ w.channel ∷ []) a.channels ∙ ap (λ z. map (λ c. c.dst_channel) (filter (λ c. c.dst.0 == v) (take i cs)) ++ z ∷ []) ch
           ∙ sym (map_more (λ (c : Connection). c.dst_channel) (filter (λ c. c.dst.0 == v) (take i cs)) (get_or cs i d)) ∙ ap (map (λ c. c.dst_channel)) (sym more);
       right = λ j e lj.
-        let ls = length-append ws (w ∷ []) in
-        ⊎_elim
+          let ls = length-append ws (w ∷ []) in
+          ⊎_elim
           (λ before. subst (λ (u : Wire). IsOwnRight own u.buffer u.own) (sym (get_or_append_left ws (w ∷ []) e j before)) (a.right j e before))
           (λ last.
-            let z : j ≡ length ws + 0 = omega arith in
-            subst (λ (u : Wire). IsOwnRight own u.buffer u.own) (sym (at_end ws w e j (omega arith))) right)
+          let z : j ≡ length ws + 0 = omega arith in
+          subst (λ (u : Wire). IsOwnRight own u.buffer u.own) (sym (at_end ws w e j (omega arith))) right)
           (cases_lt j (length ws));
       first = λ j e lj.
-        let ls = length-append ws (w ∷ []) in
-        let lc = length-map ws (λ (u : Wire). u.channel) in
-        let all = map_more (λ (u : Wire). u.channel) ws w in
-        ⊎_elim
+          let ls = length-append ws (w ∷ []) in
+          let lc = length-map ws (λ (u : Wire). u.channel) in
+          let all = map_more (λ (u : Wire). u.channel) ws w in
+          ⊎_elim
           (λ before.
-            subst (λ (u : Wire). u.first ≡ not (is_fed (take j (channels_of (ws ++ w ∷ []))) u.channel)) (sym (get_or_append_left ws (w ∷ []) e j before))
-            (subst (λ zs. (get_or ws j e).first ≡ not (is_fed zs (get_or ws j e).channel)) (sym (ap (take j) all ∙ take-append-le j (channels_of ws) (w.channel ∷ []) (omega arith)))
-              (a.first j e before)))
+          subst (λ (u : Wire). u.first ≡ not (is_fed (take j (channels_of (ws ++ w ∷ []))) u.channel)) (sym (get_or_append_left ws (w ∷ []) e j before))
+          (subst (λ zs. (get_or ws j e).first ≡ not (is_fed zs (get_or ws j e).channel)) (sym (ap (take j) all ∙ take-append-le j (channels_of ws) (w.channel ∷ []) (omega arith)))
+          (a.first j e before)))
           (λ last.
-            let is : j ≡ length ws = omega arith in
-            subst (λ (u : Wire). u.first ≡ not (is_fed (take j (channels_of (ws ++ w ∷ []))) u.channel)) (sym (at_end ws w e j is))
-            (subst (λ zs. w.first ≡ not (is_fed zs w.channel))
-              (sym (ap (take j) all ∙ take-append-le j (channels_of ws) (w.channel ∷ []) (omega arith) ∙ take_all j (channels_of ws) (omega arith))) first))
+          let is : j ≡ length ws = omega arith in
+          subst (λ (u : Wire). u.first ≡ not (is_fed (take j (channels_of (ws ++ w ∷ []))) u.channel)) (sym (at_end ws w e j is))
+          (subst (λ zs. w.first ≡ not (is_fed zs w.channel))
+          (sym (ap (take j) all ∙ take-append-le j (channels_of ws) (w.channel ∷ []) (omega arith) ∙ take_all j (channels_of ws) (omega arith))) first))
           (cases_lt j (length ws));
     }
   where
@@ -138,7 +133,7 @@ turned d =
     let lr = length-reverse (replicate d (pos 0)) in
     let l = length-replicate d (pos 0) in
     ext_get_or (pos 0) (reverse (replicate d (pos 0))) (replicate d (pos 0)) lr
-      (λ i lt. get_or-reverse (replicate d (pos 0)) i (pos 0) (omega arith) ∙ get_or_zeros d (length (replicate d (pos 0)) - 1 - i) ∙ sym (get_or_zeros d i))
+    (λ i lt. get_or-reverse (replicate d (pos 0)) i (pos 0) (omega arith) ∙ get_or_zeros d (length (replicate d (pos 0)) - 1 - i) ∙ sym (get_or_zeros d i))
 
 windows_made : (g : Graph) (p : ℕ → ℕ) (cs : List Connection) → map (λ c. replicate (delay g p c) (pos 0)) cs ≡ map reverse (windows_on (map (λ c. delay g p c) cs) (map (λ c. []) cs))
 windows_made g p [] = refl
@@ -153,7 +148,7 @@ channels_within cs v n all i lt =
     let e = get_or (filter (λ c. c.dst.0 == v) cs) i no_connection in
     let f = filter_from (λ c. c.dst.0 == v) cs (get_or (filter (λ c. c.dst.0 == v) cs) i no_connection) (Contains-get_or (filter (λ c. c.dst.0 == v) cs) i no_connection li) in
     subst (λ z. z < n) (sym (get_or-map (λ (c : Connection). c.dst_channel) (filter (λ c. c.dst.0 == v) cs) i no_connection 0 li))
-      (All-contains (λ (c : Connection). c.dst.0 ≡ v → c.dst_channel < n) cs (get_or (filter (λ c. c.dst.0 == v) cs) i no_connection) all f.0 (eqb-true _ v f.1))
+    (All-contains (λ (c : Connection). c.dst.0 ≡ v → c.dst_channel < n) cs (get_or (filter (λ c. c.dst.0 == v) cs) i no_connection) all f.0 (eqb-true _ v f.1))
 
 pub made_player : (g : Graph) (p : ℕ → ℕ) (homes : List PlanHome) (own : List Home) (node : Node) (bound : Bound) (a : Player)
     → node_named g node.uid.0 ≡ Some node → bound ≡ bounds g node.uid.0 → All (λ c. c.dst.0 ≡ node.uid.0 → c.dst_channel < ins_of node.kind) g.connections → map core_home own ≡ homes_at homes node.uid.0
@@ -176,9 +171,9 @@ made_player g p homes own node bound a named is_bound channels own_is wires line
         ins = ins ∙ sym (ap (or_zero ins_of) named);
         outs = outs ∙ sym (ap (or_zero outs_of) named);
         server = λ n e.
-          let same : Some n ≡ Some node = sym e ∙ named in
-          let nn : n ≡ node = cc in
-          subst (λ (k : Node). Serves k.kind (bounds g node.uid.0) a.server) (sym nn) (subst (λ b. Serves node.kind b a.server) is_bound server.0);
+            let same : Some n ≡ Some node = sym e ∙ named in
+            let nn : n ≡ node = cc in
+            subst (λ (k : Node). Serves k.kind (bounds g node.uid.0) a.server) (sym nn) (subst (λ b. Serves node.kind b a.server) is_bound server.0);
         whole = record {
           lines = ll ∙ sym lw;
           sums = sums;
@@ -188,10 +183,10 @@ made_player g p homes own node bound a named is_bound channels own_is wires line
           first = wires.first;
           rows = λ d lt. elim (cases_Bool (is_fed (channels_of a.wires.items) d)) [ inl fed ↦ inl fed | inr not_fed ↦ inr (silent d lt not_fed) ];
           channels = λ i d lt.
-            let at : get_or (map (λ (w : Wire). w.channel) a.wires.items) i 0 ≡ (get_or a.wires.items i d).channel = get_or-map (λ (w : Wire). w.channel) a.wires.items i d 0 lt in
-            let li : i < length (map (λ (w : Wire). w.channel) a.wires.items) = subst (λ z. i < z) (sym (length-map a.wires.items (λ (w : Wire). w.channel))) lt in
-            subst (λ z. (get_or a.wires.items i d).channel < z) (sym ins)
-            (subst (λ z. z < ins_of node.kind) at
+              let at : get_or (map (λ (w : Wire). w.channel) a.wires.items) i 0 ≡ (get_or a.wires.items i d).channel = get_or-map (λ (w : Wire). w.channel) a.wires.items i d 0 lt in
+              let li : i < length (map (λ (w : Wire). w.channel) a.wires.items) = subst (λ z. i < z) (sym (length-map a.wires.items (λ (w : Wire). w.channel))) lt in
+              subst (λ z. (get_or a.wires.items i d).channel < z) (sym ins)
+              (subst (λ z. z < ins_of node.kind) at
               (subst (λ zs. get_or zs i 0 < ins_of node.kind) (sym wires.channels) (channels_within g.connections node.uid.0 (ins_of node.kind) channels i (subst (λ zs. i < length zs) wires.channels li))));
           server = subst (λ z. FitsServer a.server z a.outs) (sym ins) (subst (λ z. FitsServer a.server (ins_of node.kind) z) (sym outs) server.2);
         };

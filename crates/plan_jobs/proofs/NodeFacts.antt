@@ -1,19 +1,17 @@
 -- What the making of a player asks holds of each live node of a certified plan.
-use Rattle.std.proofs.Common.{◌≡◌, ℕ, ◌^◌, ◌<◌, ◌≤◌, List, [], ◌∷◌, length, get_or, refl, sym, ap, ◌∙◌, subst, arith, true, false, Some, None, Bool, cond, ◌==◌}
+use Rattle.std.proofs.Common.{◌≡◌, ℕ, ◌^◌, ◌<◌, ◌≤◌, List, [], ◌∷◌, get_or, refl, sym, ap, ◌∙◌, subst, arith, true, false, Some, None, Bool, cond, ◌==◌}
 use Rattle.std.specs.List.{All, Contains, find}
 use Rattle.std.proofs.lemmas.Bool.{eqb-true}
 use Rattle.std.proofs.lemmas.List.Elements.{All-contains, Contains-get_or}
 use Rattle.graph_model.specs.Graphs.{node_named, ins_at, or_zero}
 use Rattle.graph_model.specs.Kinds.{ins_of}
 use Rattle.graph_model.specs.Members.{bad_member}
-use Rattle.graph_model.specs.Ranges.{HasRange, IsInRange}
+use Rattle.graph_model.specs.Ranges.{HasRange}
 use Rattle.graph_model.specs.Bounds.{bounds, IsBounded}
 use Rattle.graph_model.specs.Paths.{is_live, live_connections}
 use Rattle.graph_model.specs.Answers.{delay}
-use Rattle.graph_model.specs.Checks.{IsConnection}
 use Rattle.graph_model.specs.Sound.{IsSound}
 use Rattle.graph_model.specs.declared.graph.Node.{Node}
-use Rattle.graph_model.specs.declared.graph.Connection.{Connection}
 use Rattle.graph_model.specs.declared.graph.Graph.{Graph}
 use Rattle.graph_model.proofs.PathLaws.{at_tail}
 use Rattle.graph_model.proofs.RangeLaws.{ranges_are_tested}

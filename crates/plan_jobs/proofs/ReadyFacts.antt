@@ -1,16 +1,16 @@
 -- A wave may run.
-use Rattle.std.proofs.Common.{◌≡◌, ◌≢◌, ℕ, ◌+◌, ◌-◌, ◌*◌, ◌^◌, ◌<◌, ◌≤◌, zero, suc, cond, Bool, true, false, ℤ, pos, List, [], ◌∷◌, length, map, take, get_or, refl, sym, ◌∙◌, ap, subst, arith, inl, inr, ⊎_elim, Option, Some, None, ◌==◌, ◌&&◌}
-use Rattle.std.specs.Prelude.{◌⊎◌, ◌+ℤ◌, slice_get, AllPairs, unsigned_abs, FitsSigned}
+use Rattle.std.proofs.Common.{◌≡◌, ℕ, ◌+◌, ◌*◌, ◌^◌, ◌<◌, ◌≤◌, zero, suc, cond, Bool, true, false, ℤ, pos, List, [], ◌∷◌, length, map, take, get_or, refl, sym, ◌∙◌, ap, subst, arith, ⊎_elim, Option, Some, None, ◌==◌}
+use Rattle.std.specs.Prelude.{slice_get, AllPairs, unsigned_abs, FitsSigned}
 use Rattle.std.specs.Int.{w64}
 use Rattle.std.specs.List.{All, Contains, filter, range_with_len}
 use Rattle.std.specs.List.Sorted.{IsStrictlyIncreasing}
 use Rattle.std.proofs.lemmas.Int.{ints, fits_signed_from_abs}
-use Rattle.std.proofs.lemmas.Bool.{cases_eq, cases_lt, cases_order, eqb-true, ne_eqb, cond-false}
-use Rattle.std.proofs.lemmas.List.{get_or-map, length-map, get_or_default, get_or_past, take_all}
+use Rattle.std.proofs.lemmas.Bool.{cases_lt, cases_order, eqb-true, ne_eqb, cond-false}
+use Rattle.std.proofs.lemmas.List.{get_or-map, length-map, get_or_past, take_all}
 use Rattle.std.proofs.lemmas.List.FromFn.{get_or-map-range_with_len, length-map-range_with_len}
 use Rattle.std.proofs.lemmas.List.Elements.{All-contains, Contains-get_or}
-use Rattle.graph_model.specs.Histories.{Frame, History, before, channel, frame_in}
-use Rattle.graph_model.specs.Graphs.{IsRanked, node_named, ins_at, outs_at, connections_into}
+use Rattle.graph_model.specs.Histories.{Frame, before, frame_in}
+use Rattle.graph_model.specs.Graphs.{node_named, ins_at, outs_at, connections_into}
 use Rattle.graph_model.specs.Paths.{depth, is_live, live_connections}
 use Rattle.graph_model.specs.Bounds.{bounds, IsBounded, IsInputFor}
 use Rattle.graph_model.specs.Sound.{IsSound}
@@ -18,7 +18,7 @@ use Rattle.graph_model.specs.declared.graph.Node.{Node}
 use Rattle.graph_model.specs.declared.graph.Bound.{Bound}
 use Rattle.graph_model.specs.declared.graph.Connection.{Connection}
 use Rattle.graph_model.specs.declared.graph.Graph.{Graph}
-use Rattle.graph_model.proofs.PathLaws.{at_tail, first_or_later, same_name}
+use Rattle.graph_model.proofs.PathLaws.{at_tail, same_name}
 use Rattle.std.proofs.lemmas.Bool.{or_left, or_right}
 use Rattle.plan_model.proofs.PlaceLaws.{has_item}
 use Rattle.graph_model.proofs.RankLaws.{sound_is_ranked}
@@ -26,7 +26,7 @@ use Rattle.graph_model.proofs.ReachLaws.{filter_from}
 use Rattle.plan_model.specs.Pairs.{ComesBefore}
 use Rattle.plan_model.specs.Lives.{IsBefore as PortBefore, Port, ports_of}
 use Rattle.plan_model.specs.Certified.{IsCertified, positions}
-use Rattle.plan_model.specs.Schedules.{names, wave_of}
+use Rattle.plan_model.specs.Schedules.{names}
 use Rattle.plan_model.specs.declared.plan.Plan.{Plan}
 use Rattle.plan_model.specs.declared.schedule.Wave.{Wave}
 use Rattle.plan_model.specs.declared.buffers.Home.{Home as PlanHome}
@@ -35,13 +35,13 @@ use Rattle.plan_model.proofs.Saved.{Contains-map, Contains-from_map}
 use Rattle.orders.specs.Orders as core
 use Rattle.graph_model.specs.Streams.{tap, out_at}
 use Rattle.engine_model.specs.Machines.{sum_on}
-use Rattle.engine_model.specs.Machines.{Kept, taps, summed, machine, sources, homes_at, channels_into, delays_into}
+use Rattle.engine_model.specs.Machines.{Kept, taps, machine, sources, homes_at, channels_into, delays_into}
 use Rattle.engine_model.specs.States.{kept_at}
 use Rattle.engine_model.proofs.Headroom.{sums_are_bounded}
 use Rattle.pool_waves.specs.declared.job.Home.{Home}
 use Rattle.pool_waves.specs.declared.job.Desk.{Desk}
 use Rattle.pool_waves.specs.declared.job.Job.{Job}
-use Rattle.pool_waves.specs.Exchanges.{desks, AreApart}
+use Rattle.pool_waves.specs.Exchanges.{desks}
 use Rattle.pool_waves.specs.Waves.{IsFree, IsLent, IsWave}
 use Rattle.pool_waves.specs.Waves as waves
 use Rattle.pool_waves.proofs.ExchangeFacts.{desk_at}
@@ -57,9 +57,9 @@ use Rattle.players.specs.declared.playing.Player.{Player}
 use Rattle.players.specs.declared.playing.Server.{Server}
 use Rattle.players.specs.declared.playing.Server.TheVariants.{Entry, Exit, Between}
 use Rattle.players.specs.Servers.{IsWithinServer}
-use Rattle.players.specs.Plays.{samples, run_from, delays_of, Holds, CanPlay}
+use Rattle.players.specs.Plays.{samples, run_from, delays_of, CanPlay}
 use Rattle.plan_jobs.specs.Hinges.{AreJobsOf, AreAt}
-use Rattle.plan_jobs.proofs.HingeFacts.{no_wire, no_home, in_it, desk_job, desk_has, writes_same, run_same_as, is_free, pick}
+use Rattle.plan_jobs.proofs.HingeFacts.{no_wire, no_home, in_it, desk_job, desk_has, run_same_as, is_free, pick}
 use Rattle.plan_jobs.specs.Jobs.{core_home, IsOwnRight, Serves}
 use Rattle.players.specs.Reads.{SumsFit, CanRead, CanReadOwn, channels_of}
 
@@ -78,7 +78,7 @@ rises (h ∷ homes) v up = go (h.uid.0 == v) refl (rises homes v (λ i j d lt l.
         let q = filter_from (λ q. q.uid.0 == v) homes f.0 f.1 in
         let after : All (λ (y : Port). ComesBefore (h.uid.0, h.channel) (y.uid.0, y.channel)) (ports_of homes) = λ i d l. up 0 (suc i) d (omega arith) (omega arith) in
         let r = All-contains (λ (y : Port). ComesBefore (h.uid.0, h.channel) (y.uid.0, y.channel)) (ports_of homes) (record { uid = f.0.uid; channel = f.0.channel }) after
-              (Contains-map (λ (z : PlanHome). record { uid = z.uid; channel = z.channel }) homes f.0 q.0) in
+        (Contains-map (λ (z : PlanHome). record { uid = z.uid; channel = z.channel }) homes f.0 q.0) in
         let same : h.uid.0 ≡ f.0.uid.0 = eqb-true h.uid.0 v t ∙ sym (eqb-true f.0.uid.0 v q.1) in
         let ch : f.0.channel ≡ k.channel = ap (λ (z : core.Home). z.channel) f.2 in
         ⊎_elim (λ lt. absurd (omega (arith, same))) (λ e. omega (arith, e.1, ch)) r
@@ -111,9 +111,9 @@ same_place hs L is up one o q e lo lq same =
     let ch : (get_or hs o e).channel ≡ (get_or hs q e).channel = ap (λ (z : core.Home). z.channel) eq in
     let up' : Rising (map core_home hs) = subst Rising (sym is) up in
     ⊎_elim (λ x. x) (λ r. absurd (⊎_elim
-      (λ lt. let l = rising_at (map core_home hs) up' o q (core_home e) lt (omega (arith, lm)) in let a = ap (λ (z : core.Home). z.channel) (at o lo) in let b = ap (λ (z : core.Home). z.channel) (at q lq) in omega arith)
-      (λ lt. let l = rising_at (map core_home hs) up' q o (core_home e) lt (omega (arith, lm)) in let a = ap (λ (z : core.Home). z.channel) (at o lo) in let b = ap (λ (z : core.Home). z.channel) (at q lq) in omega arith)
-      r)) (cases_order o q)
+    (λ lt. let l = rising_at (map core_home hs) up' o q (core_home e) lt (omega (arith, lm)) in let a = ap (λ (z : core.Home). z.channel) (at o lo) in let b = ap (λ (z : core.Home). z.channel) (at q lq) in omega arith)
+    (λ lt. let l = rising_at (map core_home hs) up' q o (core_home e) lt (omega (arith, lm)) in let a = ap (λ (z : core.Home). z.channel) (at o lo) in let b = ap (λ (z : core.Home). z.channel) (at q lq) in omega arith)
+    r)) (cases_order o q)
 
 -- ---- sums
 none_on : (d m : ℕ) (chs : List ℕ) (ys : List ℤ) → ((i : ℕ) → i < length chs → get_or chs i 0 < d) → sum_on d (take m chs) (take m ys) ≡ pos 0
@@ -147,7 +147,6 @@ module _ (g : Graph) (plan : Plan) (sound : IsSound g) (c : IsCertified g plan) 
     (it : IsBefore g plan sound c (positions plan) (frame_in chans input) x T n brings k0 st)
     (pool_len : length pool ≡ plan.channels) (room : (b : ℕ) → b < length pool → n ≤ length (get_or pool b [])) (size : n < 2 ^ 63) (entry : n * chans ≤ length input)
     (outs : (i : ℕ) (d : Job Player) → i < length jobs → length (get_or jobs i d).desk.outs.items ≡ length (get_or jobs i d).desk.homes.items) where
-
   -- a home of a job is one of the plan's
   plan_home : (i o : ℕ) (d : Job Player) (e : Home) → i < length jobs → o < length (get_or jobs i d).desk.homes.items
       → (h : PlanHome) × Contains plan.homes h × (h.uid.0 ≡ get_or (names w) i 0) × (h.buffer ≡ (get_or (get_or jobs i d).desk.homes.items o e).buffer) × (h.channel ≡ (get_or (get_or jobs i d).desk.homes.items o e).channel)
@@ -191,8 +190,8 @@ module _ (g : Graph) (plan : Plan) (sound : IsSound g) (c : IsCertified g plan) 
         let i_in = in_it g plan sound c (frame_in chans input) k0 w at n pool jobs js st here i lt in
         let wv = wave_at g plan sound c (positions plan) (frame_in chans input) k0 (get_or (names w) i 0) w at i_in in
         local_is g (positions plan) (depth g) plan.homes x (frame_in chans input) T n (get_or (names w) i 0) st (sound_is_ranked g sound) brings
-          (it.ahead (get_or (names w) i 0) live (omega arith))
-          (reads_right g plan sound c (positions plan) (frame_in chans input) x T n brings k0 w st at it (get_or (names w) i 0) i_in) m le
+        (it.ahead (get_or (names w) i 0) live (omega arith))
+        (reads_right g plan sound c (positions plan) (frame_in chans input) x T n brings k0 w st at it (get_or (names w) i 0) i_in) m le
 
     taps_are : (q : List (List ℤ)) → IsLent (desks jobs) pool q → (t : ℕ) → t < n
         → taps (delays_of (get_or jobs i d).part) (run_from (get_or jobs i d).part (frame_in chans input) (samples q (waves.taken pool (get_or jobs i d).desk.homes.items) (get_or jobs i d).part.wires.items) 0 (suc t) (st.kept (get_or (names w) i 0))).passed
@@ -201,7 +200,7 @@ module _ (g : Graph) (plan : Plan) (sound : IsSound g) (c : IsCertified g plan) 
         let next : T + suc t ≡ suc (T + t) = omega arith in
         ap (λ ds. taps ds (run_from (get_or jobs i d).part (frame_in chans input) (samples q (waves.taken pool (get_or jobs i d).desk.homes.items) (get_or jobs i d).part.wires.items) 0 (suc t) (st.kept (get_or (names w) i 0))).passed) (js.each i d lt).delays
         ∙ ap (λ (z : Kept). taps (delays_into g (positions plan) (get_or (names w) i 0)) z.passed)
-          (run_same_as g plan sound c (frame_in chans input) k0 w at n pool jobs js st here q lent i d lt (suc t) ∙ kept_is (suc t) (omega arith) ∙ ap (λ m. kept_at g (positions plan) x m (get_or (names w) i 0)) next)
+        (run_same_as g plan sound c (frame_in chans input) k0 w at n pool jobs js st here q lent i d lt (suc t) ∙ kept_is (suc t) (omega arith) ∙ ap (λ m. kept_at g (positions plan) x m (get_or (names w) i 0)) next)
         ∙ out_of_lines g (positions plan) x (T + t) (connections_into g (get_or (names w) i 0))
 
     bounded : (m : Node) → node_named g (get_or (names w) i 0) ≡ Some m → All (λ b. b ≤ 2 ^ 46) (bounds g (get_or (names w) i 0)).ins
@@ -218,16 +217,16 @@ module _ (g : Graph) (plan : Plan) (sound : IsSound g) (c : IsCertified g plan) 
         let lw : j < length (get_or jobs i d).part.wires.items = subst (λ z. j < z) (sym (ap length p.channels) ∙ length-map (get_or jobs i d).part.wires.items (λ (u : Wire). u.channel)) lj in
         subst (λ z. get_or (channels_into g (get_or (names w) i 0)) j 0 < z) p.ins
         (subst (λ cs. get_or cs j 0 < (get_or jobs i d).part.ins) p.channels
-          (subst (λ z. z < (get_or jobs i d).part.ins) (sym (get_or-map (λ (u : Wire). u.channel) (get_or jobs i d).part.wires.items j no_wire 0 lw)) (p.whole.channels j no_wire lw)))
+        (subst (λ z. z < (get_or jobs i d).part.ins) (sym (get_or-map (λ (u : Wire). u.channel) (get_or jobs i d).part.wires.items j no_wire 0 lw)) (p.whole.channels j no_wire lw)))
 
     all_fit : (m : Node) → node_named g (get_or (names w) i 0) ≡ Some m → (t : ℕ) → SumsFit (channels_into g (get_or (names w) i 0)) (map (λ e. tap g (positions plan) (out_at g (positions plan) x) e (T + t)) (connections_into g (get_or (names w) i 0)))
     all_fit m named t = λ dd k.
         ⊎_elim
-          (λ ld. let b = part_bound dd k t ld in let l = bound_at (bounds g (get_or (names w) i 0)).ins dd (bounded m named) in small_fits _ (omega arith))
-          (λ ge.
-            let z = none_on dd k (channels_into g (get_or (names w) i 0)) (map (λ e. tap g (positions plan) (out_at g (positions plan) x) e (T + t)) (connections_into g (get_or (names w) i 0))) (λ j lj. let l = channels_below j lj in omega arith) in
-            subst (λ y. FitsSigned w64 y) (sym z) (small_fits (pos 0) (omega arith)))
-          (cases_lt dd (ins_at g (get_or (names w) i 0)))
+        (λ ld. let b = part_bound dd k t ld in let l = bound_at (bounds g (get_or (names w) i 0)).ins dd (bounded m named) in small_fits _ (omega arith))
+        (λ ge.
+        let z = none_on dd k (channels_into g (get_or (names w) i 0)) (map (λ e. tap g (positions plan) (out_at g (positions plan) x) e (T + t)) (connections_into g (get_or (names w) i 0))) (λ j lj. let l = channels_below j lj in omega arith) in
+        subst (λ y. FitsSigned w64 y) (sym z) (small_fits (pos 0) (omega arith)))
+        (cases_lt dd (ins_at g (get_or (names w) i 0)))
 
     frame_within : (t : ℕ) → IsFrameWithin (bounds g (get_or (names w) i 0)).ins (map (λ dd. sum_on dd (channels_into g (get_or (names w) i 0)) (map (λ e. tap g (positions plan) (out_at g (positions plan) x) e (T + t)) (connections_into g (get_or (names w) i 0)))) (range_with_len 0 (ins_at g (get_or (names w) i 0))))
     frame_within t = λ dd.
@@ -235,18 +234,18 @@ module _ (g : Graph) (plan : Plan) (sound : IsSound g) (c : IsCertified g plan) 
         let f : ℕ → ℤ = λ k. sum_on k (channels_into g (get_or (names w) i 0)) (map (λ e. tap g (positions plan) (out_at g (positions plan) x) e (T + t)) (connections_into g (get_or (names w) i 0))) in
         let m = length (connections_into g (get_or (names w) i 0)) in
         ⊎_elim
-          (λ ld.
-            let whole1 = take_all (length (connections_into g (get_or (names w) i 0))) (channels_into g (get_or (names w) i 0)) (omega (arith, length-map (connections_into g (get_or (names w) i 0)) (λ (e : Connection). e.dst_channel))) in
-            let whole2 = take_all (length (connections_into g (get_or (names w) i 0))) (map (λ e. tap g (positions plan) (out_at g (positions plan) x) e (T + t)) (connections_into g (get_or (names w) i 0))) (omega (arith, length-map (connections_into g (get_or (names w) i 0)) (λ (e : Connection). tap g (positions plan) (out_at g (positions plan) x) e (T + t)))) in
-            let b = part_bound dd (length (connections_into g (get_or (names w) i 0))) t ld in
-            let at_it = get_or-map-range_with_len f 0 (ins_at g (get_or (names w) i 0)) dd dd (pos 0) ld (omega arith) in
-            subst (λ y. unsigned_abs y ≤ get_or (bounds g (get_or (names w) i 0)).ins dd 0) (sym at_it)
-            (subst (λ z. unsigned_abs (sum_on dd (channels_into g (get_or (names w) i 0)) z) ≤ get_or (bounds g (get_or (names w) i 0)).ins dd 0) whole2
-            (subst (λ z. unsigned_abs (sum_on dd z (take (length (connections_into g (get_or (names w) i 0))) (map (λ e. tap g (positions plan) (out_at g (positions plan) x) e (T + t)) (connections_into g (get_or (names w) i 0))))) ≤ get_or (bounds g (get_or (names w) i 0)).ins dd 0) whole1 b)))
-          (λ ge.
-            let z = get_or_past (map f (range_with_len 0 (ins_at g (get_or (names w) i 0)))) dd (pos 0) (omega (arith, length-map-range_with_len f 0 (ins_at g (get_or (names w) i 0)))) in
-            subst (λ y. unsigned_abs y ≤ get_or (bounds g (get_or (names w) i 0)).ins dd 0) (sym z) (omega arith))
-          (cases_lt dd (ins_at g (get_or (names w) i 0)))
+        (λ ld.
+        let whole1 = take_all (length (connections_into g (get_or (names w) i 0))) (channels_into g (get_or (names w) i 0)) (omega (arith, length-map (connections_into g (get_or (names w) i 0)) (λ (e : Connection). e.dst_channel))) in
+        let whole2 = take_all (length (connections_into g (get_or (names w) i 0))) (map (λ e. tap g (positions plan) (out_at g (positions plan) x) e (T + t)) (connections_into g (get_or (names w) i 0))) (omega (arith, length-map (connections_into g (get_or (names w) i 0)) (λ (e : Connection). tap g (positions plan) (out_at g (positions plan) x) e (T + t)))) in
+        let b = part_bound dd (length (connections_into g (get_or (names w) i 0))) t ld in
+        let at_it = get_or-map-range_with_len f 0 (ins_at g (get_or (names w) i 0)) dd dd (pos 0) ld (omega arith) in
+        subst (λ y. unsigned_abs y ≤ get_or (bounds g (get_or (names w) i 0)).ins dd 0) (sym at_it)
+        (subst (λ z. unsigned_abs (sum_on dd (channels_into g (get_or (names w) i 0)) z) ≤ get_or (bounds g (get_or (names w) i 0)).ins dd 0) whole2
+        (subst (λ z. unsigned_abs (sum_on dd z (take (length (connections_into g (get_or (names w) i 0))) (map (λ e. tap g (positions plan) (out_at g (positions plan) x) e (T + t)) (connections_into g (get_or (names w) i 0))))) ≤ get_or (bounds g (get_or (names w) i 0)).ins dd 0) whole1 b)))
+        (λ ge.
+        let z = get_or_past (map f (range_with_len 0 (ins_at g (get_or (names w) i 0)))) dd (pos 0) (omega (arith, length-map-range_with_len f 0 (ins_at g (get_or (names w) i 0)))) in
+        subst (λ y. unsigned_abs y ≤ get_or (bounds g (get_or (names w) i 0)).ins dd 0) (sym z) (omega arith))
+        (cases_lt dd (ins_at g (get_or (names w) i 0)))
 
   -- ---- what it reads is there
   wire_reads : (i : ℕ) (d : Job Player) (lt : i < length jobs) (j : ℕ) (e : Wire) → j < length (get_or jobs i d).part.wires.items
@@ -254,7 +253,7 @@ module _ (g : Graph) (plan : Plan) (sound : IsSound g) (c : IsCertified g plan) 
   wire_reads i d lt j e lj =
       let p = js.each i d lt in
       let b_is : get_or (sources g plan.homes (get_or (names w) i 0)) j 0 ≡ (get_or (get_or jobs i d).part.wires.items j e).buffer =
-        ap (λ bs. get_or bs j 0) (sym p.buffers) ∙ get_or-map (λ (u : Wire). u.buffer) (get_or jobs i d).part.wires.items j e 0 lj in
+      ap (λ bs. get_or bs j 0) (sym p.buffers) ∙ get_or-map (λ (u : Wire). u.buffer) (get_or jobs i d).part.wires.items j e 0 lj in
       let ls : j < length (sources g plan.homes (get_or (names w) i 0)) = subst (λ bs. j < length bs) p.buffers (subst (λ z. j < z) (sym (length-map (get_or jobs i d).part.wires.items (λ (u : Wire). u.buffer))) lj) in
       let r = read_there (sources g plan.homes (get_or (names w) i 0)) j ls in
       let cn = read_by g plan.homes (connections_into g (get_or (names w) i 0)) (get_or (sources g plan.homes (get_or (names w) i 0)) j 0) r in
@@ -302,48 +301,50 @@ module _ (g : Graph) (plan : Plan) (sound : IsSound g) (c : IsCertified g plan) 
     within = λ i o d e lt lo. in_pool i o d e lt lo;
     apart = record {
       apart = λ i j o q d e li lj lo lq same.
-        let a = desk_job g plan sound c (frame_in chans input) k0 w at n pool jobs js st here i o d e li lo in
-        let b = desk_job g plan sound c (frame_in chans input) k0 w at n pool jobs js st here j q d e lj lq in
-        let wa : core.writes (homes_at plan.homes (get_or (names w) i 0)) (get_or (get_or (desks jobs) j d).homes.items q e).buffer ≡ true = subst (λ z. core.writes (homes_at plan.homes (get_or (names w) i 0)) z ≡ true) same a.1 in
-        let nodes = (apart g plan sound c (positions plan) (frame_in chans input) k0 w at).no_write (get_or (names w) i 0) (get_or (names w) j 0) (get_or (get_or (desks jobs) j d).homes.items q e).buffer
-              (in_it g plan sound c (frame_in chans input) k0 w at n pool jobs js st here i a.0) (in_it g plan sound c (frame_in chans input) k0 w at n pool jobs js st here j b.0) wa b.1 in
-        let rising : IsStrictlyIncreasing (names w) = All-contains (λ y. IsStrictlyIncreasing (names y)) plan.waves w (schedule g plan sound c).rising (has_item plan.waves k0 w at) in
-        let ij = differ_index (names w) (differ_rising (names w) rising) i j (subst (λ z. i < z) js.len a.0) (subst (λ z. j < z) js.len b.0) nodes in
-        let jd = pick jobs i a.0 in
-        let di = desk_at jobs i (pick jobs i a.0) d a.0 in
-        let hs = (get_or jobs i (pick jobs i a.0)).desk.homes.items in
-        let lo2 : o < length (get_or jobs i (pick jobs i a.0)).desk.homes.items = subst (λ (z : Desk). o < length z.homes.items) di lo in
-        let lq2 : q < length (get_or jobs i (pick jobs i a.0)).desk.homes.items = subst (λ (z : Desk). q < length z.homes.items) di (subst (λ k. q < length (get_or (desks jobs) k d).homes.items) (sym ij) lq) in
-        let same2 : (get_or (get_or jobs i (pick jobs i a.0)).desk.homes.items o e).buffer ≡ (get_or (get_or jobs i (pick jobs i a.0)).desk.homes.items q e).buffer =
-          ap (λ (z : Desk). (get_or z.homes.items o e).buffer) (sym di) ∙ same ∙ ap (λ k. (get_or (get_or (desks jobs) k d).homes.items q e).buffer) (sym ij) ∙ ap (λ (z : Desk). (get_or z.homes.items q e).buffer) di in
-        (ij, same_place (get_or jobs i (pick jobs i a.0)).desk.homes.items (homes_at plan.homes (get_or (names w) i 0)) (js.each i (pick jobs i a.0) a.0).homes_are
-          (rises plan.homes (get_or (names w) i 0) (values g plan sound c).ascending)
-          (λ y z cy cz eq. one_home g plan sound c (positions plan) (frame_in chans input) (get_or (names w) i 0) y z cy cz eq) o q e lo2 lq2 same2);
+          let a = desk_job g plan sound c (frame_in chans input) k0 w at n pool jobs js st here i o d e li lo in
+          let b = desk_job g plan sound c (frame_in chans input) k0 w at n pool jobs js st here j q d e lj lq in
+          let wa : core.writes (homes_at plan.homes (get_or (names w) i 0)) (get_or (get_or (desks jobs) j d).homes.items q e).buffer ≡ true = subst (λ z. core.writes (homes_at plan.homes (get_or (names w) i 0)) z ≡ true) same a.1 in
+          let nodes = (apart g plan sound c (positions plan) (frame_in chans input) k0 w at).no_write (get_or (names w) i 0) (get_or (names w) j 0) (get_or (get_or (desks jobs) j d).homes.items q e).buffer
+          (in_it g plan sound c (frame_in chans input) k0 w at n pool jobs js st here i a.0) (in_it g plan sound c (frame_in chans input) k0 w at n pool jobs js st here j b.0) wa b.1 in
+          let rising : IsStrictlyIncreasing (names w) = All-contains (λ y. IsStrictlyIncreasing (names y)) plan.waves w (schedule g plan sound c).rising (has_item plan.waves k0 w at) in
+          let ij = differ_index (names w) (differ_rising (names w) rising) i j (subst (λ z. i < z) js.len a.0) (subst (λ z. j < z) js.len b.0) nodes in
+          let jd = pick jobs i a.0 in
+          let di = desk_at jobs i (pick jobs i a.0) d a.0 in
+          let hs = (get_or jobs i (pick jobs i a.0)).desk.homes.items in
+          let lo2 : o < length (get_or jobs i (pick jobs i a.0)).desk.homes.items = subst (λ (z : Desk). o < length z.homes.items) di lo in
+          let lq2 : q < length (get_or jobs i (pick jobs i a.0)).desk.homes.items = subst (λ (z : Desk). q < length z.homes.items) di (subst (λ k. q < length (get_or (desks jobs) k d).homes.items) (sym ij) lq) in
+          let same2 : (get_or (get_or jobs i (pick jobs i a.0)).desk.homes.items o e).buffer ≡ (get_or (get_or jobs i (pick jobs i a.0)).desk.homes.items q e).buffer =
+          ap (λ (z : Desk). (get_or z.homes.items o e).buffer) (sym di) ∙ same ∙ ap (λ k. (get_or (get_or (desks jobs) k d).homes.items q e).buffer) (sym ij) ∙ ap (λ (z : Desk). (get_or z.homes.items q e).buffer) di in (
+            ij,
+            same_place (get_or jobs i (pick jobs i a.0)).desk.homes.items (homes_at plan.homes (get_or (names w) i 0)) (js.each i (pick jobs i a.0) a.0).homes_are
+                (rises plan.homes (get_or (names w) i 0) (values g plan sound c).ascending)
+                (λ y z cy cz eq. one_home g plan sound c (positions plan) (frame_in chans input) (get_or (names w) i 0) y z cy cz eq) o q e lo2 lq2 same2,
+          );
     };
     each = λ q lent i d lt.
-      let p = js.each i d lt in
-      let nd = node_in g plan sound c (positions plan) (frame_in chans input) k0 (get_or (names w) i 0) w at (in_it g plan sound c (frame_in chans input) k0 w at n pool jobs js st here i lt) in
-      let lm = length-map (get_or jobs i d).desk.homes.items (λ (h : Home). get_or pool h.buffer []) in
-      record {
-        whole = p.whole;
-        size = size;
-        sources = λ j e lj. can_read i d lt q lent j e lj;
-        homes_len = sym lm;
-        values = λ o e lo. subst (λ z. (get_or (get_or jobs i d).desk.homes.items o e).channel < z) (sym p.outs) (values_in i o d e lt lo);
-        room = λ o lo.
-          let lo2 : o < length (get_or jobs i d).desk.homes.items = omega (arith, lm) in
-          let is = get_or-map (λ (h : Home). get_or pool h.buffer []) (get_or jobs i d).desk.homes.items o no_home [] lo2 in
-          subst (λ l. n ≤ length l) (sym is) (room (get_or (get_or jobs i d).desk.homes.items o no_home).buffer (in_pool i o d no_home lt lo2));
-        state = st.kept (get_or (names w) i 0);
-        holds = here.holds i d lt;
-        fit = λ t small_t.
-          subst (λ ys. SumsFit (channels_of (get_or jobs i d).part.wires.items) ys) (sym (taps_are i d lt q lent t small_t))
-            (subst (λ cs. SumsFit cs (map (λ e. tap g (positions plan) (out_at g (positions plan) x) e (T + t)) (connections_into g (get_or (names w) i 0)))) (sym p.channels) (all_fit i d lt nd.0 nd.1 t));
-        within = λ t small_t.
-          subst (λ ys. IsWithinServer (get_or jobs i d).part.server (map (λ dd. sum_on dd (channels_of (get_or jobs i d).part.wires.items) ys) (range_with_len 0 (get_or jobs i d).part.ins))) (sym (taps_are i d lt q lent t small_t))
-          (subst (λ cs. IsWithinServer (get_or jobs i d).part.server (map (λ dd. sum_on dd cs (map (λ e. tap g (positions plan) (out_at g (positions plan) x) e (T + t)) (connections_into g (get_or (names w) i 0)))) (range_with_len 0 (get_or jobs i d).part.ins))) (sym p.channels)
-          (subst (λ k. IsWithinServer (get_or jobs i d).part.server (map (λ dd. sum_on dd (channels_into g (get_or (names w) i 0)) (map (λ e. tap g (positions plan) (out_at g (positions plan) x) e (T + t)) (connections_into g (get_or (names w) i 0)))) (range_with_len 0 k))) (sym p.ins)
-            (server_within i d lt nd.0 nd.1 t)));
-        entry = entry;
-      };
+        let p = js.each i d lt in
+        let nd = node_in g plan sound c (positions plan) (frame_in chans input) k0 (get_or (names w) i 0) w at (in_it g plan sound c (frame_in chans input) k0 w at n pool jobs js st here i lt) in
+        let lm = length-map (get_or jobs i d).desk.homes.items (λ (h : Home). get_or pool h.buffer []) in
+        record {
+          whole = p.whole;
+          size = size;
+          sources = λ j e lj. can_read i d lt q lent j e lj;
+          homes_len = sym lm;
+          values = λ o e lo. subst (λ z. (get_or (get_or jobs i d).desk.homes.items o e).channel < z) (sym p.outs) (values_in i o d e lt lo);
+          room = λ o lo.
+              let lo2 : o < length (get_or jobs i d).desk.homes.items = omega (arith, lm) in
+              let is = get_or-map (λ (h : Home). get_or pool h.buffer []) (get_or jobs i d).desk.homes.items o no_home [] lo2 in
+              subst (λ l. n ≤ length l) (sym is) (room (get_or (get_or jobs i d).desk.homes.items o no_home).buffer (in_pool i o d no_home lt lo2));
+          state = st.kept (get_or (names w) i 0);
+          holds = here.holds i d lt;
+          fit = λ t small_t.
+              subst (λ ys. SumsFit (channels_of (get_or jobs i d).part.wires.items) ys) (sym (taps_are i d lt q lent t small_t))
+              (subst (λ cs. SumsFit cs (map (λ e. tap g (positions plan) (out_at g (positions plan) x) e (T + t)) (connections_into g (get_or (names w) i 0)))) (sym p.channels) (all_fit i d lt nd.0 nd.1 t));
+          within = λ t small_t.
+              subst (λ ys. IsWithinServer (get_or jobs i d).part.server (map (λ dd. sum_on dd (channels_of (get_or jobs i d).part.wires.items) ys) (range_with_len 0 (get_or jobs i d).part.ins))) (sym (taps_are i d lt q lent t small_t))
+              (subst (λ cs. IsWithinServer (get_or jobs i d).part.server (map (λ dd. sum_on dd cs (map (λ e. tap g (positions plan) (out_at g (positions plan) x) e (T + t)) (connections_into g (get_or (names w) i 0)))) (range_with_len 0 (get_or jobs i d).part.ins))) (sym p.channels)
+              (subst (λ k. IsWithinServer (get_or jobs i d).part.server (map (λ dd. sum_on dd (channels_into g (get_or (names w) i 0)) (map (λ e. tap g (positions plan) (out_at g (positions plan) x) e (T + t)) (connections_into g (get_or (names w) i 0)))) (range_with_len 0 k))) (sym p.ins)
+              (server_within i d lt nd.0 nd.1 t)));
+          entry = entry;
+        };
   }

@@ -1,22 +1,17 @@
 -- Wave after wave.
-use Rattle.std.proofs.Common.{◌≡◌, ◌≢◌, ℕ, ◌+◌, ◌-◌, ◌*◌, ◌^◌, ◌<◌, ◌≤◌, zero, suc, cond, Bool, true, false, ℤ, pos, List, [], ◌∷◌, ◌++◌, length, map, take, drop, get_or, refl, sym, ◌∙◌, ap, subst, arith, add-one, inl, inr, ⊎_elim, Option, Some, None, ◌==◌}
-use Rattle.std.specs.Prelude.{◌⊎◌, slice_get, AllPairs}
-use Rattle.std.specs.List.{All, Contains, filter, flat_map}
-use Rattle.std.proofs.lemmas.Bool.{cases_lt, cases_Bool, false_from_ne_true}
-use Rattle.std.proofs.lemmas.List.{get_or_default, get_or-take, get_or-drop, get_or_append_left, get_or-append_right, length-take, length-drop, length-append, length-map, take_all, get_or-map}
-use Rattle.std.proofs.lemmas.List.Elements.{All-contains, Contains-get_or}
+use Rattle.std.proofs.Common.{◌≡◌, ℕ, ◌+◌, ◌-◌, ◌<◌, ◌≤◌, zero, suc, false, ℤ, List, [], ◌∷◌, ◌++◌, length, map, take, drop, get_or, refl, sym, ◌∙◌, ap, subst, arith, inl, inr, ⊎_elim, Some}
+use Rattle.std.specs.Prelude.{◌⊎◌, slice_get}
+use Rattle.std.specs.List.{flat_map}
+use Rattle.std.proofs.lemmas.Bool.{cases_lt, false_from_ne_true}
+use Rattle.std.proofs.lemmas.List.{get_or_default, get_or-take, get_or-drop, get_or_append_left, get_or-append_right, length-take, length-drop, length-append, length-map, take_all}
 use borrow.Rule.Slice.PartMut.{put_mid, post_of}
-use Rattle.graph_model.specs.Histories.{Frame, frame_in, before}
-use Rattle.graph_model.specs.Bounds.{bounds, IsInputFor}
-use Rattle.graph_model.specs.Graphs.{node_named}
-use Rattle.graph_model.specs.Paths.{is_live, live_nodes}
+use Rattle.graph_model.specs.Histories.{frame_in}
+use Rattle.graph_model.specs.Bounds.{bounds}
+use Rattle.graph_model.specs.Paths.{live_nodes}
 use Rattle.graph_model.specs.Sound.{IsSound}
 use Rattle.graph_model.specs.declared.kind.Kind.{Kind}
-use Rattle.graph_model.specs.declared.graph.Uid.{Uid}
-use Rattle.graph_model.specs.declared.graph.Node.{Node}
 use Rattle.graph_model.specs.declared.graph.Bound.{Bound}
 use Rattle.graph_model.specs.declared.graph.Graph.{Graph}
-use Rattle.graph_model.proofs.PathLaws.{at_tail, first_or_later}
 use Rattle.plan_model.specs.Certified.{IsCertified, positions}
 use Rattle.plan_model.specs.Schedules.{names}
 use Rattle.plan_model.specs.declared.plan.Plan.{Plan}
@@ -26,9 +21,8 @@ use Rattle.plan_model.proofs.Distinct.{Differ, differ_permuted}
 use Rattle.plan_model.proofs.WaveLaws.{live_differ}
 use Rattle.orders.specs.Orders as core
 use Rattle.orders.proofs.Counts.{orders_run}
-use Rattle.engine_model.specs.Machines.{Kept, machine, sources, channels_into}
-use Rattle.engine_model.specs.States.{kept_at}
-use Rattle.engine_model.proofs.Plans.{schedule, is_in_of, of_is_in}
+use Rattle.engine_model.specs.Machines.{Kept, machine}
+use Rattle.engine_model.proofs.Plans.{schedule, of_is_in}
 use Rattle.engine_model.proofs.Runs.{IsBefore, next, apart}
 use Rattle.engine_model.proofs.OrderLaws.{some_order, orders_never_show}
 use Rattle.pool_waves.specs.declared.job.Home.{Home}
@@ -248,18 +242,18 @@ module _ (input : List ℤ) (channels : ℕ) (ends : List ℕ) (n : ℕ) (jobs :
   part_jobs = record {
     len = part_len;
     each = λ i d li.
-      let ln : i < length (names wave.0) = subst (λ z. i < z) part_len li in
-      subst (λ v. IsPlayerOf g (positions plan) plan.homes v (get_or (take (get_or ends k 0 - start) (drop start jobs')) i d).desk.homes.items (get_or (take (get_or ends k 0 - start) (drop start jobs')) i d).part) (name_at i ln)
-      (subst (λ (j : Job Player). IsPlayerOf g (positions plan) plan.homes (get_or (all_nodes plan) (start + i) 0) j.desk.homes.items j.part) (sym (job_at i d ln))
+        let ln : i < length (names wave.0) = subst (λ z. i < z) part_len li in
+        subst (λ v. IsPlayerOf g (positions plan) plan.homes v (get_or (take (get_or ends k 0 - start) (drop start jobs')) i d).desk.homes.items (get_or (take (get_or ends k 0 - start) (drop start jobs')) i d).part) (name_at i ln)
+        (subst (λ (j : Job Player). IsPlayerOf g (positions plan) plan.homes (get_or (all_nodes plan) (start + i) 0) j.desk.homes.items j.part) (sym (job_at i d ln))
         ((t.ran g plan s suits).0.each (start + i) d (inside i ln)));
   }
 
   pub part_at : AreAt (names wave.0) (take (get_or ends k 0 - start) (drop start jobs')) pool' (state_at g plan input channels n s k)
   part_at = record {
     holds = λ i d li.
-      let ln : i < length (names wave.0) = subst (λ z. i < z) part_len li in
-      subst (λ v. Holds (get_or (take (get_or ends k 0 - start) (drop start jobs')) i d).part ((state_at g plan input channels n s k).kept v)) (name_at i ln)
-      (subst (λ (j : Job Player). Holds j.part ((state_at g plan input channels n s k).kept (get_or (all_nodes plan) (start + i) 0))) (sym (job_at i d ln))
+        let ln : i < length (names wave.0) = subst (λ z. i < z) part_len li in
+        subst (λ v. Holds (get_or (take (get_or ends k 0 - start) (drop start jobs')) i d).part ((state_at g plan input channels n s k).kept v)) (name_at i ln)
+        (subst (λ (j : Job Player). Holds j.part ((state_at g plan input channels n s k).kept (get_or (all_nodes plan) (start + i) 0))) (sym (job_at i d ln))
         ((t.ran g plan s suits).1.holds (start + i) d (inside i ln)));
     samples = (t.ran g plan s suits).1.samples;
   }
@@ -273,7 +267,7 @@ module _ (input : List ℤ) (channels : ℕ) (ends : List ℕ) (n : ℕ) (jobs :
   pub has_run : core.WaveHasRun (machine g (positions plan) plan.homes (frame_in channels input)) n (names wave.0) (state_at g plan input channels n s k) (state_at g plan input channels n s (suc k))
   has_run = subst (λ z. core.WaveHasRun (machine g (positions plan) plan.homes (frame_in channels input)) n (names wave.0) (state_at g plan input channels n s k) z) (sym then_state)
       (orders_run (machine g (positions plan) plan.homes (frame_in channels input)) n (names wave.0) (core.in_turn n (names wave.0)) (state_at g plan input channels n s k)
-        (apart g plan suits.sound suits.certified (positions plan) (frame_in channels input) k wave.0 wave.1) order)
+      (apart g plan suits.sound suits.certified (positions plan) (frame_in channels input) k wave.0 wave.1) order)
 
   module _ (part' : List (Job Player)) (pool'' : List (List ℤ))
       (ran : WaveRan (λ q hs os a os' b. PlayerDone (frame_in channels input) n q hs os a os' b) pool' (take (get_or ends k 0 - start) (drop start jobs')) pool'' part') where
@@ -306,23 +300,24 @@ module _ (input : List ℤ) (channels : ℕ) (ends : List ℕ) (n : ℕ) (jobs :
       record {
         len = put_len start (get_or ends k 0 - start) jobs' part' part_len' (let a = bounded.0 in let b = bounded.1 in omega arith) ∙ (t.ran g plan s suits).0.len;
         each = λ i d li.
-          let lj : i < length jobs' = subst (λ z. i < z) (put_len start (get_or ends k 0 - start) jobs' part' part_len' (let a = bounded.0 in let b = bounded.1 in omega arith)) li in
-          by_place i (λ z. IsPlayerOf g (positions plan) plan.homes (get_or (all_nodes plan) i 0) z.desk.homes.items z.part) d lj
+            let lj : i < length jobs' = subst (λ z. i < z) (put_len start (get_or ends k 0 - start) jobs' part' part_len' (let a = bounded.0 in let b = bounded.1 in omega arith)) li in
+            by_place i (λ z. IsPlayerOf g (positions plan) plan.homes (get_or (all_nodes plan) i 0) z.desk.homes.items z.part) d lj
             ((t.ran g plan s suits).0.each i d lj)
             (λ j at lp.
-              let ln : j < length (names wave.0) = subst (λ z. j < z) (ran.jobs_len ∙ part_len) lp in
-              let lq : j < length (take (get_or ends k 0 - start) (drop start jobs')) = subst (λ z. j < z) ran.jobs_len lp in
-              let done = ran.ran j d lq in
-              subst (λ v. IsPlayerOf g (positions plan) plan.homes v (get_or part' j d).desk.homes.items (get_or part' j d).part) (sym (name_at j ln) ∙ ap (λ z. get_or (all_nodes plan) z 0) at)
-              (subst (λ hs. IsPlayerOf g (positions plan) plan.homes (get_or (names wave.0) j 0) hs (get_or part' j d).part) (sym (ran.homes j d lq))
-                (player_stays g (positions plan) plan.homes (get_or (names wave.0) j 0) _ _ (get_or part' j d).part done.played.same done.whole (part_jobs.each j d lq))));
+            let ln : j < length (names wave.0) = subst (λ z. j < z) (ran.jobs_len ∙ part_len) lp in
+            let lq : j < length (take (get_or ends k 0 - start) (drop start jobs')) = subst (λ z. j < z) ran.jobs_len lp in
+            let done = ran.ran j d lq in
+            subst (λ v. IsPlayerOf g (positions plan) plan.homes v (get_or part' j d).desk.homes.items (get_or part' j d).part) (sym (name_at j ln) ∙ ap (λ z. get_or (all_nodes plan) z 0) at)
+            (subst (λ hs. IsPlayerOf g (positions plan) plan.homes (get_or (names wave.0) j 0) hs (get_or part' j d).part) (sym (ran.homes j d lq))
+            (player_stays g (positions plan) plan.homes (get_or (names wave.0) j 0) _ _ (get_or part' j d).part done.played.same done.whole (part_jobs.each j d lq))));
       },
       record {
         holds = λ i d li.
-          let lj : i < length jobs' = subst (λ z. i < z) (put_len start (get_or ends k 0 - start) jobs' part' part_len' (let a = bounded.0 in let b = bounded.1 in omega arith)) li in
-          by_place2 i d lj;
+            let lj : i < length jobs' = subst (λ z. i < z) (put_len start (get_or ends k 0 - start) jobs' part' part_len' (let a = bounded.0 in let b = bounded.1 in omega arith)) li in
+            by_place2 i d lj;
         samples = now.samples;
-      })
+      },
+    )
       where
         put_len : {X : Type 0} (a m : ℕ) (xs ys : List X) → length ys ≡ m → a + m ≤ length xs → length (put_mid a m xs ys) ≡ length xs
         put_len a m xs ys e le =
@@ -337,33 +332,33 @@ module _ (input : List ℤ) (channels : ℕ) (ends : List ℕ) (n : ℕ) (jobs :
         by_place i P d lj old new =
             let a = bounded.0 in let b = bounded.1 in let l = part_len' in
             ⊎_elim
-              (λ before. subst P (sym (put_before start (get_or ends k 0 - start) jobs' part' i d before (omega arith))) old)
-              (λ after.
-                ⊎_elim
-                  (λ inside. let at : start + (i - start) ≡ i = omega arith in
-                    subst P (sym (ap (λ z. get_or (put_mid start (get_or ends k 0 - start) jobs' part') z d) (sym at) ∙ put_at start (get_or ends k 0 - start) jobs' part' (i - start) d (omega arith) (omega arith))) (new (i - start) at (omega arith)))
-                  (λ past. subst P (sym (put_after start (get_or ends k 0 - start) jobs' part' i d part_len' (omega arith) (omega arith))) old)
-                  (cases_lt i (get_or ends k 0)))
-              (cases_lt i start)
+            (λ before. subst P (sym (put_before start (get_or ends k 0 - start) jobs' part' i d before (omega arith))) old)
+            (λ after.
+            ⊎_elim
+            (λ inside. let at : start + (i - start) ≡ i = omega arith in
+            subst P (sym (ap (λ z. get_or (put_mid start (get_or ends k 0 - start) jobs' part') z d) (sym at) ∙ put_at start (get_or ends k 0 - start) jobs' part' (i - start) d (omega arith) (omega arith))) (new (i - start) at (omega arith)))
+            (λ past. subst P (sym (put_after start (get_or ends k 0 - start) jobs' part' i d part_len' (omega arith) (omega arith))) old)
+            (cases_lt i (get_or ends k 0)))
+            (cases_lt i start)
 
         by_place2 : (i : ℕ) (d : Job Player) → i < length jobs' → Holds (get_or (put_mid start (get_or ends k 0 - start) jobs' part') i d).part ((state_at g plan input channels n s (suc k)).kept (get_or (all_nodes plan) i 0))
         by_place2 i d lj =
             let a = bounded.0 in let b = bounded.1 in let l = part_len' in
             ⊎_elim
-              (λ before. subst (λ (z : Job Player). Holds z.part ((state_at g plan input channels n s (suc k)).kept (get_or (all_nodes plan) i 0))) (sym (put_before start (get_or ends k 0 - start) jobs' part' i d before (omega arith)))
-                (subst (Holds (get_or jobs' i d).part) (sym (has_run.idle (get_or (all_nodes plan) i 0) (outside i lj (inl before)))) ((t.ran g plan s suits).1.holds i d lj)))
-              (λ after.
-                ⊎_elim
-                  (λ inside. let at : start + (i - start) ≡ i = omega arith in
-                    let lp : i - start < length part' = omega arith in
-                    let ln : i - start < length (names wave.0) = subst (λ z. i - start < z) (ran.jobs_len ∙ part_len) lp in
-                    subst (λ (z : Job Player). Holds z.part ((state_at g plan input channels n s (suc k)).kept (get_or (all_nodes plan) i 0))) (sym (ap (λ z. get_or (put_mid start (get_or ends k 0 - start) jobs' part') z d) (sym at) ∙ put_at start (get_or ends k 0 - start) jobs' part' (i - start) d lp (omega arith)))
-                    (subst (λ v. Holds (get_or part' (i - start) d).part ((state_at g plan input channels n s (suc k)).kept v)) (sym (name_at (i - start) ln) ∙ ap (λ z. get_or (all_nodes plan) z 0) at)
-                      (now.holds (i - start) d lp)))
-                  (λ past. subst (λ (z : Job Player). Holds z.part ((state_at g plan input channels n s (suc k)).kept (get_or (all_nodes plan) i 0))) (sym (put_after start (get_or ends k 0 - start) jobs' part' i d part_len' (omega arith) (omega arith)))
-                    (subst (Holds (get_or jobs' i d).part) (sym (has_run.idle (get_or (all_nodes plan) i 0) (outside i lj (inr past)))) ((t.ran g plan s suits).1.holds i d lj)))
-                  (cases_lt i (get_or ends k 0)))
-              (cases_lt i start)
+            (λ before. subst (λ (z : Job Player). Holds z.part ((state_at g plan input channels n s (suc k)).kept (get_or (all_nodes plan) i 0))) (sym (put_before start (get_or ends k 0 - start) jobs' part' i d before (omega arith)))
+            (subst (Holds (get_or jobs' i d).part) (sym (has_run.idle (get_or (all_nodes plan) i 0) (outside i lj (inl before)))) ((t.ran g plan s suits).1.holds i d lj)))
+            (λ after.
+            ⊎_elim
+            (λ inside. let at : start + (i - start) ≡ i = omega arith in
+            let lp : i - start < length part' = omega arith in
+            let ln : i - start < length (names wave.0) = subst (λ z. i - start < z) (ran.jobs_len ∙ part_len) lp in
+            subst (λ (z : Job Player). Holds z.part ((state_at g plan input channels n s (suc k)).kept (get_or (all_nodes plan) i 0))) (sym (ap (λ z. get_or (put_mid start (get_or ends k 0 - start) jobs' part') z d) (sym at) ∙ put_at start (get_or ends k 0 - start) jobs' part' (i - start) d lp (omega arith)))
+            (subst (λ v. Holds (get_or part' (i - start) d).part ((state_at g plan input channels n s (suc k)).kept v)) (sym (name_at (i - start) ln) ∙ ap (λ z. get_or (all_nodes plan) z 0) at)
+            (now.holds (i - start) d lp)))
+            (λ past. subst (λ (z : Job Player). Holds z.part ((state_at g plan input channels n s (suc k)).kept (get_or (all_nodes plan) i 0))) (sym (put_after start (get_or ends k 0 - start) jobs' part' i d part_len' (omega arith) (omega arith)))
+            (subst (Holds (get_or jobs' i d).part) (sym (has_run.idle (get_or (all_nodes plan) i 0) (outside i lj (inr past)))) ((t.ran g plan s suits).1.holds i d lj)))
+            (cases_lt i (get_or ends k 0)))
+            (cases_lt i start)
 
 -- ---- the loop, from what a block may ask
 module _ (input : List ℤ) (channels : ℕ) (ends : List ℕ) (n : ℕ) (jobs : List (Job Player)) (pool : List (List ℤ)) (c : CanRunBlock input channels ends n jobs pool) where
@@ -377,11 +372,11 @@ module _ (input : List ℤ) (channels : ℕ) (ends : List ℕ) (n : ℕ) (jobs :
       let o = one_order n c.plan.waves k w.0 w.1 (some_order n c.plan.waves (schedule c.graph c.plan c.sound c.certified).rising) in
       let m = machine c.graph (positions c.plan) c.plan.homes (frame_in channels input) in
       next c.graph c.plan c.sound c.certified (positions c.plan) (frame_in channels input) c.x c.time n c.brings k w.0 (state_at c.graph c.plan input channels n c.state k) (state_at c.graph c.plan input channels n c.state (suc k)) w.1
-        (before_at k (omega arith))
-        (subst (λ z. core.WaveHasRun (machine c.graph (positions c.plan) c.plan.homes (frame_in channels input)) n (names w.0) (state_at c.graph c.plan input channels n c.state k) z)
-          (sym (after_take (machine c.graph (positions c.plan) c.plan.homes (frame_in channels input)) (orders_of n c.plan) k (core.in_turn n (names w.0)) c.state (order_at n c.plan.waves k w.0 w.1)))
-          (orders_run (machine c.graph (positions c.plan) c.plan.homes (frame_in channels input)) n (names w.0) (core.in_turn n (names w.0)) (state_at c.graph c.plan input channels n c.state k)
-            (apart c.graph c.plan c.sound c.certified (positions c.plan) (frame_in channels input) k w.0 w.1) o))
+      (before_at k (omega arith))
+      (subst (λ z. core.WaveHasRun (machine c.graph (positions c.plan) c.plan.homes (frame_in channels input)) n (names w.0) (state_at c.graph c.plan input channels n c.state k) z)
+      (sym (after_take (machine c.graph (positions c.plan) c.plan.homes (frame_in channels input)) (orders_of n c.plan) k (core.in_turn n (names w.0)) c.state (order_at n c.plan.waves k w.0 w.1)))
+      (orders_run (machine c.graph (positions c.plan) c.plan.homes (frame_in channels input)) n (names w.0) (core.in_turn n (names w.0)) (state_at c.graph c.plan input channels n c.state k)
+      (apart c.graph c.plan c.sound c.certified (positions c.plan) (frame_in channels input) k w.0 w.1) o))
 
   pub turning_none : Turning input channels ends n jobs pool 0 0 jobs pool
   turning_none = record {
@@ -406,19 +401,19 @@ module _ (input : List ℤ) (channels : ℕ) (ends : List ℕ) (n : ℕ) (jobs :
         let b1 = bounds_of.1 in
         let l = slice_len start (get_or ends k 0) jobs' bounds_of.1 in
         subst (λ (j : Job Player). length j.desk.outs.items ≡ length j.desk.homes.items) (sym (slice_at start (get_or ends k 0) jobs' i d (omega arith)))
-          (t.outs (start + i) d (let y = bounds_of.0 in omega arith))
+        (t.outs (start + i) d (let y = bounds_of.0 in omega arith))
 
     pub turn_ready : IsWave (λ q hs os a. CanPlay input channels q hs os n a) pool' (take (get_or ends k 0 - start) (drop start jobs'))
     turn_ready =
         let w = wave input channels ends n jobs pool k start jobs' pool' lt t c.graph c.plan c.state suits in
         wave_ready c.graph c.plan c.sound c.certified c.x c.time n input channels c.brings c.small k w.0 w.1 pool' (take (get_or ends k 0 - start) (drop start jobs'))
-          (part_jobs input channels ends n jobs pool k start jobs' pool' lt t c.graph c.plan c.state suits)
-          (state_at c.graph c.plan input channels n c.state k)
-          (part_at input channels ends n jobs pool k start jobs' pool' lt t c.graph c.plan c.state suits)
-          (before_at k (let l = c.ends_are.len in omega arith))
-          (t.pool_len ∙ c.pool_len)
-          (λ b lb. let r = c.room b (subst (λ z. b < z) t.pool_len lb) in let l = t.lengths b in omega arith)
-          c.size c.entry slice_outs
+        (part_jobs input channels ends n jobs pool k start jobs' pool' lt t c.graph c.plan c.state suits)
+        (state_at c.graph c.plan input channels n c.state k)
+        (part_at input channels ends n jobs pool k start jobs' pool' lt t c.graph c.plan c.state suits)
+        (before_at k (let l = c.ends_are.len in omega arith))
+        (t.pool_len ∙ c.pool_len)
+        (λ b lb. let r = c.room b (subst (λ z. b < z) t.pool_len lb) in let l = t.lengths b in omega arith)
+        c.size c.entry slice_outs
 
     pub turning_more : (part' : List (Job Player)) (pool'' : List (List ℤ))
         → WaveRan (λ q hs os a os' b. PlayerDone (frame_in channels input) n q hs os a os' b) pool' (take (get_or ends k 0 - start) (drop start jobs')) pool'' part'
@@ -437,7 +432,7 @@ module _ (input : List ℤ) (channels : ℕ) (ends : List ℕ) (n : ℕ) (jobs :
           outs = λ i d li. each_out i d (subst (λ z. i < z) all li) pl ran;
           stays = λ i d li. stays_twice (get_or jobs i d) (get_or jobs' i d) (get_or (put_mid start (get_or ends k 0 - start) jobs' part') i d) (t.stays i d li) (each_stay i d (subst (λ z. i < z) (sym t.jobs_len) li) pl ran);
           ran = λ g plan s q. let z : suc k ≡ k + 1 = omega arith in
-            subst (λ j. AreJobsOf g (positions plan) plan (all_nodes plan) (put_mid start (get_or ends k 0 - start) jobs' part') × AreAt (all_nodes plan) (put_mid start (get_or ends k 0 - start) jobs' part') pool'' (state_at g plan input channels n s j)) z
+              subst (λ j. AreJobsOf g (positions plan) plan (all_nodes plan) (put_mid start (get_or ends k 0 - start) jobs' part') × AreAt (all_nodes plan) (put_mid start (get_or ends k 0 - start) jobs' part') pool'' (state_at g plan input channels n s j)) z
               (then_ran input channels ends n jobs pool k start jobs' pool' lt t g plan s q part' pool'' ran);
         }
       where
@@ -456,15 +451,15 @@ module _ (input : List ℤ) (channels : ℕ) (ends : List ℕ) (n : ℕ) (jobs :
         each_out i d li pl ran =
             let b = bounds_of in let b0 = b.0 in let b1 = b.1 in
             ⊎_elim
-              (λ before. subst (λ (z : Job Player). length z.desk.outs.items ≡ length z.desk.homes.items) (sym (put_before start (get_or ends k 0 - start) jobs' part' i d before (omega arith))) (t.outs i d li))
-              (λ after. ⊎_elim
-                (λ inside. let at : start + (i - start) ≡ i = omega arith in
-                  let lq : i - start < length (take (get_or ends k 0 - start) (drop start jobs')) = let z = ran.jobs_len in omega arith in
-                  subst (λ (z : Job Player). length z.desk.outs.items ≡ length z.desk.homes.items) (sym (ap (λ z. get_or (put_mid start (get_or ends k 0 - start) jobs' part') z d) (sym at) ∙ put_at start (get_or ends k 0 - start) jobs' part' (i - start) d (omega arith) (omega arith)))
-                    (ap length (ran.outs (i - start) d lq) ∙ slice_outs (i - start) d lq ∙ sym (ap length (ran.homes (i - start) d lq))))
-                (λ past. subst (λ (z : Job Player). length z.desk.outs.items ≡ length z.desk.homes.items) (sym (put_after start (get_or ends k 0 - start) jobs' part' i d pl (omega arith) (omega arith))) (t.outs i d li))
-                (cases_lt i (get_or ends k 0)))
-              (cases_lt i start)
+            (λ before. subst (λ (z : Job Player). length z.desk.outs.items ≡ length z.desk.homes.items) (sym (put_before start (get_or ends k 0 - start) jobs' part' i d before (omega arith))) (t.outs i d li))
+            (λ after. ⊎_elim
+            (λ inside. let at : start + (i - start) ≡ i = omega arith in
+            let lq : i - start < length (take (get_or ends k 0 - start) (drop start jobs')) = let z = ran.jobs_len in omega arith in
+            subst (λ (z : Job Player). length z.desk.outs.items ≡ length z.desk.homes.items) (sym (ap (λ z. get_or (put_mid start (get_or ends k 0 - start) jobs' part') z d) (sym at) ∙ put_at start (get_or ends k 0 - start) jobs' part' (i - start) d (omega arith) (omega arith)))
+            (ap length (ran.outs (i - start) d lq) ∙ slice_outs (i - start) d lq ∙ sym (ap length (ran.homes (i - start) d lq))))
+            (λ past. subst (λ (z : Job Player). length z.desk.outs.items ≡ length z.desk.homes.items) (sym (put_after start (get_or ends k 0 - start) jobs' part' i d pl (omega arith) (omega arith))) (t.outs i d li))
+            (cases_lt i (get_or ends k 0)))
+            (cases_lt i start)
 
         each_stay : (i : ℕ) (d : Job Player) → i < length jobs' → length part' ≡ get_or ends k 0 - start
             → WaveRan (λ q hs os a os' b. PlayerDone (frame_in channels input) n q hs os a os' b) pool' (take (get_or ends k 0 - start) (drop start jobs')) pool'' part'
@@ -472,17 +467,17 @@ module _ (input : List ℤ) (channels : ℕ) (ends : List ℕ) (n : ℕ) (jobs :
         each_stay i d li pl ran =
             let b = bounds_of in let b0 = b.0 in let b1 = b.1 in
             ⊎_elim
-              (λ before. subst (λ (z : Job Player). JobStays (get_or jobs' i d) z) (sym (put_before start (get_or ends k 0 - start) jobs' part' i d before (omega arith))) (stays_itself (get_or jobs' i d)))
-              (λ after. ⊎_elim
-                (λ inside. let at : start + (i - start) ≡ i = omega arith in
-                  let lq : i - start < length (take (get_or ends k 0 - start) (drop start jobs')) = let z = ran.jobs_len in omega arith in
-                  let done = ran.ran (i - start) d lq in
-                  let step : JobStays (get_or (take (get_or ends k 0 - start) (drop start jobs')) (i - start) d) (get_or part' (i - start) d) = record { node = ran.nodes (i - start) d lq; server = done.played.same.server } in
-                  subst (λ (z : Job Player). JobStays (get_or jobs' i d) z) (sym (ap (λ z. get_or (put_mid start (get_or ends k 0 - start) jobs' part') z d) (sym at) ∙ put_at start (get_or ends k 0 - start) jobs' part' (i - start) d (omega arith) (omega arith)))
-                    (subst (λ (z : Job Player). JobStays z (get_or part' (i - start) d)) (slice_at start (get_or ends k 0) jobs' (i - start) d (omega arith) ∙ ap (λ z. get_or jobs' z d) at) step))
-                (λ past. subst (λ (z : Job Player). JobStays (get_or jobs' i d) z) (sym (put_after start (get_or ends k 0 - start) jobs' part' i d pl (omega arith) (omega arith))) (stays_itself (get_or jobs' i d)))
-                (cases_lt i (get_or ends k 0)))
-              (cases_lt i start)
+            (λ before. subst (λ (z : Job Player). JobStays (get_or jobs' i d) z) (sym (put_before start (get_or ends k 0 - start) jobs' part' i d before (omega arith))) (stays_itself (get_or jobs' i d)))
+            (λ after. ⊎_elim
+            (λ inside. let at : start + (i - start) ≡ i = omega arith in
+            let lq : i - start < length (take (get_or ends k 0 - start) (drop start jobs')) = let z = ran.jobs_len in omega arith in
+            let done = ran.ran (i - start) d lq in
+            let step : JobStays (get_or (take (get_or ends k 0 - start) (drop start jobs')) (i - start) d) (get_or part' (i - start) d) = record { node = ran.nodes (i - start) d lq; server = done.played.same.server } in
+            subst (λ (z : Job Player). JobStays (get_or jobs' i d) z) (sym (ap (λ z. get_or (put_mid start (get_or ends k 0 - start) jobs' part') z d) (sym at) ∙ put_at start (get_or ends k 0 - start) jobs' part' (i - start) d (omega arith) (omega arith)))
+            (subst (λ (z : Job Player). JobStays z (get_or part' (i - start) d)) (slice_at start (get_or ends k 0) jobs' (i - start) d (omega arith) ∙ ap (λ z. get_or jobs' z d) at) step))
+            (λ past. subst (λ (z : Job Player). JobStays (get_or jobs' i d) z) (sym (put_after start (get_or ends k 0 - start) jobs' part' i d pl (omega arith) (omega arith))) (stays_itself (get_or jobs' i d)))
+            (cases_lt i (get_or ends k 0)))
+            (cases_lt i start)
 
   -- every order leaves the same, up to what the pool and the kept states show
   same_at : (vs : List ℕ) (js : List (Job Player)) (q : List (List ℤ)) (a b : core.State Kept) → core.IsSame a b → AreAt vs js q a → AreAt vs js q b
@@ -499,10 +494,12 @@ module _ (input : List ℤ) (channels : ℕ) (ends : List ℕ) (n : ℕ) (jobs :
     outs = t.outs;
     stays = t.stays;
     ran = λ g plan s orders sound certified js here ends_are o.
-      let q : Suits ends jobs pool g plan s = record { sound = sound; certified = certified; jobs_are = js; here = here; ends_are = ends_are } in
-      let r = t.ran g plan s (record { sound = sound; certified = certified; jobs_are = js; here = here; ends_are = ends_are }) in
-      let whole : take k (orders_of n plan) ≡ orders_of n plan = take_all k (orders_of n plan) (omega (arith, length-map plan.waves (λ w. core.in_turn n (names w)))) in
-      let same = orders_never_show g plan (frame_in channels input) n (orders_of n plan) orders s sound certified (some_order n plan.waves (schedule g plan sound certified).rising) o in
-      (r.0, same_at (all_nodes plan) jobs' pool' (core.after (machine g (positions plan) plan.homes (frame_in channels input)) (orders_of n plan) s) (core.after (machine g (positions plan) plan.homes (frame_in channels input)) orders s) same
-        (subst (λ os. AreAt (all_nodes plan) jobs' pool' (core.after (machine g (positions plan) plan.homes (frame_in channels input)) os s)) whole r.1));
+        let q : Suits ends jobs pool g plan s = record { sound = sound; certified = certified; jobs_are = js; here = here; ends_are = ends_are } in
+        let r = t.ran g plan s (record { sound = sound; certified = certified; jobs_are = js; here = here; ends_are = ends_are }) in
+        let whole : take k (orders_of n plan) ≡ orders_of n plan = take_all k (orders_of n plan) (omega (arith, length-map plan.waves (λ w. core.in_turn n (names w)))) in
+        let same = orders_never_show g plan (frame_in channels input) n (orders_of n plan) orders s sound certified (some_order n plan.waves (schedule g plan sound certified).rising) o in (
+          r.0,
+          same_at (all_nodes plan) jobs' pool' (core.after (machine g (positions plan) plan.homes (frame_in channels input)) (orders_of n plan) s) (core.after (machine g (positions plan) plan.homes (frame_in channels input)) orders s) same
+              (subst (λ os. AreAt (all_nodes plan) jobs' pool' (core.after (machine g (positions plan) plan.homes (frame_in channels input)) os s)) whole r.1),
+        );
   }

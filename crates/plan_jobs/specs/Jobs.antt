@@ -1,6 +1,5 @@
 -- The jobs of a plan.
 use Rattle.std.specs.Prelude.{◌≡◌, ◌≢◌, ℕ, ◌<◌, true, false, List, [], length, map, replicate, slice_index_or, Option, Some, None}
-use Rattle.std.specs.List.{position_or_len}
 use Rattle.graph_model.specs.Bounds.{bounds}
 use Rattle.graph_model.specs.Graphs.{node_named, ins_at, outs_at, is_input, is_output, connections_into}
 use Rattle.graph_model.specs.Kinds.{ins_of}

@@ -42,11 +42,7 @@ pub(crate) fn own_of(homes: &[Home], buffer: usize) -> Option<usize>
 }
 
 /// The values of a node, by the plan's homes.
-pub(crate) fn homes_of(
-    alloc: Global,
-    homes: &[PlanHome],
-    uid: Uid,
-) -> Result<Vec<Home>, AllocError>
+pub(crate) fn homes_of(alloc: Global, homes: &[PlanHome], uid: Uid) -> Result<Vec<Home>, AllocError>
     ensures { IfOk result (λ list. map core_home list.items ≡ homes_at homes.now uid.0) }
 {
     let mut list = Vec::new(alloc);

@@ -1,4 +1,4 @@
-use Rattle.std.proofs.Common.{arith, rules, ◌≤◌, ◌<◌, length, get_or}
+use Rattle.std.proofs.Common.{arith, rules}
 use Rattle.plan_jobs.proofs.TurnFacts.{turning_none, turning_more, turn_ready, bounds_of, block_has_run}
 use Rattle.plan_jobs.proofs.block.run_block.Goals as goal
 
