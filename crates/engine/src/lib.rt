@@ -20,3 +20,6 @@ mod output;
 mod shape;
 
 pub use engine::Engine;
+
+#[cfg(test)]
+mod tests;
