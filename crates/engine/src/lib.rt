@@ -20,6 +20,3 @@ mod output;
 mod shape;
 
 pub use engine::Engine;
-
-#[cfg(test)]
-mod tests;
