@@ -4,15 +4,16 @@ ghost use Rattle.std.specs.Prelude.{◌≡◌, ◌*◌, ◌^◌, ◌<◌, ◌≤
 ghost use Rattle.graph_model.specs.Bounds.{AreUpTo};
 ghost use Rattle.graph_model.specs.Graphs.{in_channels, out_channels};
 ghost use Rattle.graph_model.specs.Sound.{Fits};
+ghost use Rattle.plan_model.specs.Certified.{IsCertified};
 ghost use Rattle.engine_model.specs.Engines.{IsSame, ins, outs};
 
 use connections::{Checked, check};
 use engine::Engine;
 use fork_join::{Gate, Open};
 use graph_gen::graph_of as generated;
-use graph_model::{Graph, Kind};
+use graph_model::{Graph, Kind, List};
 use plan_compiler::compile;
-use plan_model::Mode;
+use plan_model::{Mode, Plan};
 use renderer::answer;
 use std::alloc::{AllocError, Global};
 use std::process::Abort;
@@ -94,6 +95,7 @@ fn fitting(cut: usize, ins: usize, samples: usize) -> usize
     requires { 0 < ins }
     ensures most { result ≤ 8192 }
     ensures within { result * ins ≤ samples }
+    ensures fits { result * ins < 2 ^ 64 }
 {
     cut.min(8192).min(samples / ins)
 }
@@ -147,6 +149,58 @@ fn cutting(alloc: Global, length: usize, frames: usize) -> Result<Vec<usize>, Al
     Ok(cuts)
 }
 
+/// What a new engine gives of an input in these blocks.
+fn rendered<R: Threads + Sync>(
+    rt: &R,
+    alloc: Global,
+    checked: &Checked,
+    plan: &Plan,
+    cuts: &[usize],
+    samples: &[i64],
+) -> Result<Vec<i64>, AllocError>
+    requires certified { IsCertified checked.now plan.now }
+    requires small { AreUpTo (2 ^ 31) samples.now }
+{
+    let widths = widths_of(checked);
+    let mut engine = Engine::new(alloc, checked, plan, 8192)?;
+    in_blocks(rt, alloc, &mut engine, widths, cuts, samples)
+}
+
+/// The answer to whole frames.
+fn wanted(
+    rt: &impl Abort,
+    alloc: Global,
+    checked: &Checked,
+    samples: &[i64],
+) -> Result<List<i64>, AllocError>
+    requires { AreUpTo (2 ^ 31) samples.now }
+{
+    let left = samples.len() % checked.input_channels() as usize;
+    assert_eq!(rt; left, 0);
+    answer(alloc, checked, samples)
+}
+
+/// An engine by the schedule of a mode gives what is wanted, in blocks of each of these lengths.
+fn agrees_by<R: Abort + Threads + Sync>(
+    rt: &R,
+    alloc: Global,
+    checked: &Checked,
+    mode: Mode,
+    lengths: &[usize],
+    samples: &[i64],
+    wanted: &[i64],
+) -> Result<(), AllocError>
+    requires { AreUpTo (2 ^ 31) samples.now }
+{
+    let plan = compile(alloc, checked, mode)?;
+    for length in lengths {
+        let cuts = cutting(alloc, *length, samples.len())?;
+        let heard = rendered(rt, alloc, checked, &plan, cuts.as_slice(), samples)?;
+        assert_eq!(rt; heard.as_slice(), wanted);
+    }
+    Ok(())
+}
+
 /// A graph's engine gives the answer to so many frames of noise, in blocks of each of these lengths, by both schedules.
 fn agrees<R: Abort + Threads + Sync>(
     rt: &R,
@@ -155,24 +209,16 @@ fn agrees<R: Abort + Threads + Sync>(
     frames: usize,
     lengths: &[usize],
 ) -> Result<(), Fail>
-    requires fits { Fits graph }
+    requires { Fits graph }
 {
     let checked = check(alloc, graph)?;
     let widths = widths_of(&checked);
     let samples = noise(alloc, frames.saturating_mul(widths.ins))?;
-    let left = samples.len() % checked.input_channels() as usize;
-    assert_eq!(rt; left, 0);
-    let wanted = answer(alloc, &checked, samples.as_slice())?;
-    for mode in [Mode::OneByOne, Mode::Waves] {
-        let plan = compile(alloc, &checked, mode)?;
-        for length in lengths {
-            let mut engine = Engine::new(alloc, &checked, &plan, 8192)?;
-            let cuts = cutting(alloc, *length, frames)?;
-            let heard = in_blocks(rt, alloc, &mut engine, widths, &cuts, samples.as_slice())?;
-            assert_eq!(rt; heard.as_slice(), wanted.as_slice());
-            assert_eq!(rt; engine.frames() as usize, frames);
-        }
-    }
+    let samples = samples.as_slice();
+    let wanted = wanted(rt, alloc, &checked, samples)?;
+    let wanted = wanted.as_slice();
+    agrees_by(rt, alloc, &checked, Mode::OneByOne, lengths, samples, wanted)?;
+    agrees_by(rt, alloc, &checked, Mode::Waves, lengths, samples, wanted)?;
     Ok(())
 }
 
