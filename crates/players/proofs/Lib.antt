@@ -3,3 +3,4 @@ pub mod GatherFacts
 pub mod ScatterFacts
 pub mod ServeFacts
 pub mod PlayFacts
+pub mod TestFacts

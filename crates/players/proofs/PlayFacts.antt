@@ -1,21 +1,23 @@
 -- A sub-block in the words of the machine, and sub-blocks one after another.
-use Rattle.std.proofs.Common.{◌≡◌, ℕ, ◌+◌, ◌-◌, ◌*◌, ◌<◌, ◌≤◌, zero, suc, ℤ, pos, List, [], ◌∷◌, ◌++◌, Option, Some, None, length, map, drop, reverse, get_or, refl, sym, ◌∙◌, ap, subst, arith, inl, inr, ⊎_elim}
-use Rattle.std.specs.Prelude.{◌⊎◌}
+use Rattle.std.proofs.Common.{◌≡◌, ℕ, ◌+◌, ◌-◌, ◌*◌, ◌<◌, ◌≤◌, zero, suc, ℤ, pos, List, [], ◌∷◌, ◌++◌, Option, Some, None, length, map, drop, reverse, get_or, refl, sym, ◌∙◌, ap, subst, arith, inl, inr, ⊎_elim, ◌==◌, true}
+use Rattle.std.specs.Prelude.{◌⊎◌, ◌+ℤ◌}
 use Rattle.std.specs.List.{range_with_len}
-use Rattle.std.proofs.lemmas.List.{length-map, length-take, length-drop, get_or-take, get_or-drop}
-use Rattle.std.proofs.lemmas.Bool.{cases_lt}
-use Rattle.std.proofs.Math.Nat.{suc-mul, mul-le-mul_right, mul-le-mul_left}
+use Rattle.std.proofs.lemmas.List.{length-map, length-take, length-drop, get_or-take, get_or-drop, drop_all}
+use Rattle.std.proofs.lemmas.Bool.{cases_lt, cond-true, eq-eqb}
+use Rattle.std.proofs.lemmas.Int.{ints}
+use Rattle.std.proofs.Math.Nat.{mul-le-mul_right, mul-le-mul_left}
 use Rattle.graph_model.specs.Blocks.{planar_frame, so_far}
 use Rattle.graph_model.specs.Histories.{Frame, History, window, ago, frame_in}
 use Rattle.graph_model.specs.Kernels.{IsFrameWithin}
 use Rattle.graph_model.specs.Kinds.{rule_of}
+use Rattle.graph_model.proofs.BlockLaws.{before-same, row_within}
 use Rattle.delay_lines.specs.Lines.{kept, passed}
 use Rattle.engine_model.specs.Machines.{Kept, passed_then, taps, sum_on, summed, windows_on}
 use Rattle.fixed_kernels.proofs.RowFacts.{kept_all, leaves_at}
 use Rattle.pool_waves.specs.declared.job.Home.{Home}
-use Rattle.players.specs.Reads.{source, own_or, part, CanRead, CanReadOwn, IsSet, SumsFit, taps_at, lines_after, lengths_of, channels_of}
+use Rattle.players.specs.Reads.{source, own_or, part, CanRead, CanReadOwn, IsSet, IsAlone, SumsFit, taps_at, lines_after, lengths_of, channels_of}
 use Rattle.players.specs.Servers.{taken_by, given_by, brought, ServerHolds, SameServer, IsWithinServer}
-use Rattle.players.specs.Plays.{samples, step_of, run_from, delays_of, Holds, IsOfSame, IsWhole, CanTurn, CanPlay, HasPlayed}
+use Rattle.players.specs.Plays.{samples, step_of, run_from, delays_of, Holds, IsOfSame, IsWhole, gathered, CanTake, HasTaken, CanTurn, CanPlay, HasPlayed}
 use Rattle.players.specs.declared.gathering.Wire.{Wire}
 use Rattle.players.specs.declared.playing.Player.{Player}
 use Rattle.players.specs.declared.playing.Server.{Server}
@@ -35,7 +37,7 @@ so_far_put row p f (suc j) le same =
     ap (λ x. x ∷ (so_far row j ++ p)) (same j (omega arith)) ∙ ap (λ z. f j ∷ z) (so_far_put row p f j (omega arith) same)
 
 -- the samples of a buffer
-abbrev from_on : List ℤ → ℕ → ℕ → ℤ
+abbrev pub from_on : List ℤ → ℕ → ℕ → ℤ
 from_on xs first t = get_or xs (first + t) (pos 0)
 
 module _ (d : ℕ) (p xs : List ℤ) (first n : ℕ) (fits : first + n ≤ length xs) where
@@ -58,11 +60,11 @@ module _ (d : ℕ) (p xs : List ℤ) (first n : ℕ) (fits : first + n ≤ lengt
       ∙ ap (λ z. ago z d) (so_far_put (part first n xs) p (from_on xs first) (suc t) (omega (arith, size)) at)
 
 -- ---- all lines of a node
-abbrev passed_run : (ℕ → List ℤ) → ℕ → ℕ → List (List ℤ) → List (List ℤ)
+abbrev pub passed_run : (ℕ → List ℤ) → ℕ → ℕ → List (List ℤ) → List (List ℤ)
 passed_run xs first zero ps = ps
 passed_run xs first (suc j) ps = passed_then (xs (first + j)) (passed_run xs first j ps)
 
-run_cons : (pool outs : List (List ℤ)) (w : Wire) (ws : List Wire) (first j : ℕ) (p : List ℤ) (ps : List (List ℤ))
+pub run_cons : (pool outs : List (List ℤ)) (w : Wire) (ws : List Wire) (first j : ℕ) (p : List ℤ) (ps : List (List ℤ))
     → passed_run (samples pool outs (w ∷ ws)) first j (p ∷ ps) ≡ put (from_on (source pool outs w) first) j p ∷ passed_run (samples pool outs ws) first j ps
 run_cons pool outs w ws first zero p ps = refl
 run_cons pool outs w ws first (suc j) p ps = ap (passed_then (samples pool outs (w ∷ ws) (first + j))) (run_cons pool outs w ws first j p ps)
@@ -98,6 +100,45 @@ taps_run pool outs first n t (w ∷ ws) (d ∷ ds) (p ∷ ps) lt ld lp can =
     ap (λ y. y ∷ taps_at ws pool outs first n (map reverse (windows_on ds ps)) t) (tap_run d p (source pool outs w) first n (long pool outs (first + n) w ws can) t lt)
     ∙ ap (λ ys. ago (put (from_on (source pool outs w) first) (suc t) p) d ∷ ys) rest
     ∙ ap (taps (d ∷ ds)) (sym (run_cons pool outs w ws first (suc t) p ps))
+
+-- ---- one wire without delay
+only_line : (ws : List Wire) (ls : List (List ℤ)) (pool outs : List (List ℤ)) (first n : ℕ) → length ws ≡ 1 → length ls ≡ length ws → get_or ls 0 [] ≡ []
+    → ls ≡ lines_after ws pool outs first n ls
+only_line [] ls pool outs first n one len at_once = absurd (omega (arith, one))
+only_line (w ∷ v ∷ ws) ls pool outs first n one len at_once = absurd (omega (arith, one))
+only_line (w ∷ []) [] pool outs first n one len at_once = absurd (omega (arith, len))
+only_line (w ∷ []) (l ∷ m ∷ ls) pool outs first n one len at_once = absurd (omega (arith, len))
+only_line (w ∷ []) (l ∷ []) pool outs first n one len at_once =
+    ap (λ z. z ∷ []) (at_once ∙ sym (ap (λ z. kept z (part first n (source pool outs w))) at_once ∙ drop_all (length (part first n (source pool outs w))) (part first n (source pool outs w)) (omega arith)))
+
+only_sum : (ws : List Wire) (ls : List (List ℤ)) (pool outs : List (List ℤ)) (first n : ℕ) (xs : List ℤ) (t : ℕ) → length ws ≡ 1 → length ls ≡ length ws → get_or ls 0 [] ≡ []
+    → ((w : Wire) → xs ≡ part first n (source pool outs (get_or ws 0 w))) → ((w : Wire) → (get_or ws 0 w).channel ≡ 0) → t < length xs
+    → get_or xs t (pos 0) ≡ sum_on 0 (channels_of ws) (taps_at ws pool outs first n ls t)
+only_sum [] ls pool outs first n xs t one len at_once is on lt = absurd (omega (arith, one))
+only_sum (w ∷ v ∷ ws) ls pool outs first n xs t one len at_once is on lt = absurd (omega (arith, one))
+only_sum (w ∷ []) [] pool outs first n xs t one len at_once is on lt = absurd (omega (arith, len))
+only_sum (w ∷ []) (l ∷ m ∷ ls) pool outs first n xs t one len at_once is on lt = absurd (omega (arith, len))
+only_sum (w ∷ []) (l ∷ []) pool outs first n xs t one len at_once is on lt =
+    let tap : get_or (passed l (part first n (source pool outs w))) t (pos 0) ≡ get_or xs t (pos 0)
+    = (λ j. get_or (passed (at_once j) (sym (is w) j)) t (pos 0)) ∙ get_or-take (length xs) xs t (pos 0) lt in
+    let yes : (w.channel == 0) ≡ true = eq-eqb w.channel 0 (on w) in
+    sym (ap (λ z. z +ℤ pos 0) (cond-true (w.channel == 0) (get_or (passed l (part first n (source pool outs w))) t (pos 0)) (pos 0) yes ∙ tap) ∙ plus_zero (get_or xs t (pos 0)))
+  where
+    plus_zero : (x : ℤ) → x +ℤ pos 0 ≡ x
+    plus_zero x = omega (arith, ints)
+
+part_size : (ws : List Wire) (pool outs : List (List ℤ)) (first n : ℕ) (xs : List ℤ) → length ws ≡ 1 → ((w : Wire) → xs ≡ part first n (source pool outs (get_or ws 0 w))) → CanReadAll pool outs (first + n) ws → length xs ≡ n
+part_size [] pool outs first n xs one e all = absurd (omega (arith, one))
+part_size (w ∷ ws) pool outs first n xs one e all = ap length (e w) ∙ size 0 [] (source pool outs w) first n (long pool outs (first + n) w ws all)
+
+pub alone_over : (ws ws' : List Wire) (ls ls' : List (List ℤ)) (ins : ℕ) (pool outs : List (List ℤ)) (first n : ℕ) (xs : List ℤ) → ws' ≡ ws → ls' ≡ ls
+    → IsAlone ws' ls' ins pool outs first n xs → IsAlone ws ls ins pool outs first n xs
+alone_over ws ws' ls ls' ins pool outs first n xs e f is = record {
+  one = sym (ap length e) ∙ is.one;
+  ins = is.ins;
+  at_once = ap (λ z. get_or z 0 []) (sym f) ∙ is.at_once;
+  samples = λ w. is.samples w ∙ ap (λ z. part first n (source pool outs (get_or z 0 w))) e;
+}
 
 -- ---- a run of the machine's steps
 pub passed_of : (a : Player) (block : ℕ → Frame) (xs : ℕ → List ℤ) (first j : ℕ) (s : Kept) → (run_from a block xs first j s).passed ≡ passed_run xs first j s.passed
@@ -137,42 +178,67 @@ run_on a block xs first (suc j) s =
     ∙ ap (λ r. step_of a block (first + j) r (xs (first + j))) (run_on a block xs first j s)
 
 -- ---- a turn
-module _ (input : List ℤ) (channels : ℕ) (pool : List (List ℤ)) (homes : List Home) (outs : List (List ℤ)) (first count : ℕ) (a : Player)
-    (can : CanTurn input channels pool homes outs first count a) (sums : List ℤ)
-    (len : length sums ≡ length a.sums.items)
-    (summed_is : (d t : ℕ) → IsSet (channels_of a.wires.items) a.silent.items d → d * count + count ≤ length a.sums.items → t < count → get_or sums (d * count + t) (pos 0) ≡ sum_on d (channels_of a.wires.items) (taps_at a.wires.items pool outs first count a.lines.items t)) where
-  block : ℕ → Frame
-  block k = frame_in channels input k
-
-  xs : ℕ → List ℤ
-  xs k = samples pool outs a.wires.items k
-
-  pub row : (d : ℕ) → d < a.ins → d * count + count ≤ length a.sums.items
+module _ (input : List ℤ) (channels : ℕ) (pool outs : List (List ℤ)) (first count : ℕ) (a : Player) (can : CanTake input channels pool outs first count a) where
+  row : (d : ℕ) → d < a.ins → d * count + count ≤ a.ins * 64
   row d lt =
-      let e = suc-mul d count in
-      let le : suc d * count ≤ a.ins * count = mul-le-mul_right count lt in
+      let le = row_within d a.ins count lt in
       let wide : a.ins * count ≤ a.ins * 64 = mul-le-mul_left a.ins can.most in
-      let w = can.whole.sums in
       omega arith
 
-  pub sums_room : a.ins * count ≤ length sums
-  sums_room = let wide : a.ins * count ≤ a.ins * 64 = mul-le-mul_left a.ins can.most in let w = can.whole.sums in omega (arith, len)
-
-  pub told_room : a.outs * count ≤ length a.told.items
-  told_room = let wide : a.outs * count ≤ a.outs * 64 = mul-le-mul_left a.outs can.most in let w = can.whole.told in omega arith
-
-  pub out_row : (c : ℕ) → c < a.outs → c * count + count ≤ length a.told.items
-  out_row c lt =
-      let e = suc-mul c count in
-      let le : suc c * count ≤ a.outs * count = mul-le-mul_right count lt in
-      omega (arith, told_room)
-
   -- the planar frame is the sum of what came out of the lines
-  pub frame_is : (t : ℕ) → t < count → planar_frame a.ins count sums t ≡ map (λ d. sum_on d (channels_of a.wires.items) (taps_at a.wires.items pool outs first count a.lines.items t)) (range_with_len 0 a.ins)
-  frame_is t lt = map_range (λ d. get_or sums (d * count + t) (pos 0)) (λ d. sum_on d (channels_of a.wires.items) (taps_at a.wires.items pool outs first count a.lines.items t)) (pos 0) a.ins (λ d ld. summed_is d t (can.whole.rows d ld) (row d ld) lt)
+  pub sums_are : (sums : List ℤ) → length sums ≡ length a.sums.items
+      → ((d t : ℕ) → IsSet (channels_of a.wires.items) a.silent.items d → d * count + count ≤ length a.sums.items → t < count → get_or sums (d * count + t) (pos 0) ≡ sum_on d (channels_of a.wires.items) (taps_at a.wires.items pool outs first count a.lines.items t))
+      → (t : ℕ) → t < count → planar_frame a.ins count sums t ≡ gathered a pool outs first count t
+  sums_are sums len summed_is t lt =
+      map_range (λ d. get_or sums (d * count + t) (pos 0)) (λ d. sum_on d (channels_of a.wires.items) (taps_at a.wires.items pool outs first count a.lines.items t)) (pos 0) a.ins
+      (λ d ld. summed_is d t (can.whole.rows d ld) (let le = row d ld in let w = can.whole.sums in omega arith) lt)
 
-  pub within : (t : ℕ) → t < count → IsWithinServer a.server (planar_frame a.ins count sums t)
-  within t lt = subst (IsWithinServer a.server) (sym (frame_is t lt)) (can.within t lt)
+  -- also where they are all that comes in
+  pub alone_are : (samples : List ℤ) → IsAlone a.wires.items a.lines.items a.ins pool outs first count samples
+      → (t : ℕ) → t < count → planar_frame a.ins count samples t ≡ gathered a pool outs first count t
+  alone_are samples is t lt =
+      map_range (λ d. get_or samples (d * count + t) (pos 0)) (λ d. sum_on d (channels_of a.wires.items) (taps_at a.wires.items pool outs first count a.lines.items t)) (pos 0) a.ins
+      (λ d ld.
+      let none : d ≡ 0 = omega (arith, ld, is.ins) in
+      subst (λ z. get_or samples (z * count + t) (pos 0) ≡ sum_on z (channels_of a.wires.items) (taps_at a.wires.items pool outs first count a.lines.items t)) (sym none)
+      (let place : 0 * count + t ≡ t = omega arith in ap (λ z. get_or samples z (pos 0)) place
+      ∙ only_sum a.wires.items a.lines.items pool outs first count samples t is.one can.whole.lines is.at_once is.samples
+      (λ w. let l = can.whole.channels 0 w (omega (arith, is.one)) in let e = is.ins in omega arith)
+      (omega (arith, lt, part_size a.wires.items pool outs first count samples is.one is.samples can.sources))))
+
+  pub alone_room : (samples : List ℤ) → IsAlone a.wires.items a.lines.items a.ins pool outs first count samples → a.ins * count ≤ length samples
+  alone_room samples is =
+      let one : a.ins * count ≡ 1 * count = ap (λ m. m * count) is.ins in
+      omega (arith, one, part_size a.wires.items pool outs first count samples is.one is.samples can.sources)
+
+  pub lines_stay : (samples : List ℤ) → IsAlone a.wires.items a.lines.items a.ins pool outs first count samples → a.lines.items ≡ lines_after a.wires.items pool outs first count a.lines.items
+  lines_stay samples is = only_line a.wires.items a.lines.items pool outs first count is.one can.whole.lines is.at_once
+
+  pub within : (frames : List ℤ) → ((t : ℕ) → t < count → planar_frame a.ins count frames t ≡ gathered a pool outs first count t)
+      → (t : ℕ) → t < count → IsWithinServer a.server (planar_frame a.ins count frames t)
+  within frames same t lt = subst (IsWithinServer a.server) (sym (same t lt)) (can.within t lt)
+
+  -- what a server says of planar frames, said of the sums
+  pub has_taken : (frames : List ℤ) → ((t : ℕ) → t < count → planar_frame a.ins count frames t ≡ gathered a pool outs first count t) → (b : Player)
+      → b.wires.items ≡ a.wires.items → b.lines.items ≡ lines_after a.wires.items pool outs first count a.lines.items → b.ins ≡ a.ins → b.outs ≡ a.outs → SameServer a.server b.server
+      → ((h : History) → ServerHolds a.server h → ServerHolds b.server (brought a.server (frame_in channels input) first (planar_frame a.ins count frames) count ++ h))
+      → ((h : History) (c t : ℕ) → ServerHolds a.server h → c < a.outs → t < count → get_or b.told.items (c * count + t) (pos 0) ≡ get_or (given_by a.server (brought a.server (frame_in channels input) first (planar_frame a.ins count frames) (suc t) ++ h)) c (pos 0))
+      → HasTaken (frame_in channels input) pool outs first count a b
+  has_taken frames same b wires lines ins outs_same server holds told =
+      record {
+        wires = wires;
+        lines = lines;
+        ins = ins;
+        outs_stay = outs_same;
+        server = server;
+        holds = λ h at. subst (λ (z : History). ServerHolds b.server (z ++ h)) (upto count (omega arith)) (holds h at);
+        told = λ h c t at lc lt. told h c t at lc lt ∙ ap (λ (z : History). get_or (given_by a.server (z ++ h)) c (pos 0)) (upto (suc t) (omega arith));
+      }
+    where
+      upto : (n : ℕ) → n ≤ count → brought a.server (frame_in channels input) first (planar_frame a.ins count frames) n ≡ brought a.server (frame_in channels input) first (gathered a pool outs first count) n
+      upto n le =
+          before-same (λ t. taken_by a.server (frame_in channels input) (first + t) (planar_frame a.ins count frames t)) (λ t. taken_by a.server (frame_in channels input) (first + t) (gathered a pool outs first count t)) n
+          (λ t lt. ap (taken_by a.server (frame_in channels input) (first + t)) (same t (omega arith)))
 
   module _ (s : Kept) (holds : Holds a s) where
     delays_len : length (delays_of a) ≡ length a.wires.items
@@ -184,29 +250,28 @@ module _ (input : List ℤ) (channels : ℕ) (pool : List (List ℤ)) (homes : L
         ∙ taps_run pool outs first count t a.wires.items (delays_of a) s.passed lt delays_len holds.passed can.sources
         ∙ ap (taps (delays_of a)) (sym (passed_of a (frame_in channels input) (samples pool outs a.wires.items) first (suc t) s))
 
-    pub frames_are : (t : ℕ) → t < count → planar_frame a.ins count sums t ≡ summed a.ins (channels_of a.wires.items) (delays_of a) (run_from a (frame_in channels input) (samples pool outs a.wires.items) first (suc t) s).passed
-    frames_are t lt = frame_is t lt ∙ ap (λ ys. map (λ d. sum_on d (channels_of a.wires.items) ys) (range_with_len 0 a.ins)) (taps_are t lt)
+    frames_are : (t : ℕ) → t < count → gathered a pool outs first count t ≡ summed a.ins (channels_of a.wires.items) (delays_of a) (run_from a (frame_in channels input) (samples pool outs a.wires.items) first (suc t) s).passed
+    frames_are t lt = ap (λ ys. map (λ d. sum_on d (channels_of a.wires.items) ys) (range_with_len 0 a.ins)) (taps_are t lt)
 
-    pub came_is : (j : ℕ) → j ≤ count → brought a.server (frame_in channels input) first (planar_frame a.ins count sums) j ++ s.came ≡ (run_from a (frame_in channels input) (samples pool outs a.wires.items) first j s).came
-    came_is j le = came_run a (frame_in channels input) (samples pool outs a.wires.items) first count (planar_frame a.ins count sums) s frames_are j le
+    pub came_is : (j : ℕ) → j ≤ count → brought a.server (frame_in channels input) first (gathered a pool outs first count) j ++ s.came ≡ (run_from a (frame_in channels input) (samples pool outs a.wires.items) first j s).came
+    came_is j le = came_run a (frame_in channels input) (samples pool outs a.wires.items) first count (gathered a pool outs first count) s frames_are j le
 
-    pub lines_are : lines_after a.wires.items pool outs first count a.lines.items ≡ map reverse (windows_on (delays_of a) (run_from a (frame_in channels input) (samples pool outs a.wires.items) first count s).passed)
+    lines_are : lines_after a.wires.items pool outs first count a.lines.items ≡ map reverse (windows_on (delays_of a) (run_from a (frame_in channels input) (samples pool outs a.wires.items) first count s).passed)
     lines_are =
         ap (λ ls. lines_after a.wires.items pool outs first count ls) holds.lines
         ∙ lines_run pool outs first count a.wires.items (delays_of a) s.passed delays_len holds.passed can.sources
         ∙ ap (λ ps. map reverse (windows_on (delays_of a) ps)) (sym (passed_of a (frame_in channels input) (samples pool outs a.wires.items) first count s))
 
-    pub passed_len : length (run_from a (frame_in channels input) (samples pool outs a.wires.items) first count s).passed ≡ length a.wires.items
+    passed_len : length (run_from a (frame_in channels input) (samples pool outs a.wires.items) first count s).passed ≡ length a.wires.items
     passed_len = ap length (passed_of a (frame_in channels input) (samples pool outs a.wires.items) first count s) ∙ length-run pool outs a.wires.items first count s.passed holds.passed
 
     -- after the turn
-    pub holds_then : (b : Player) → b.wires.items ≡ a.wires.items → b.lines.items ≡ lines_after a.wires.items pool outs first count a.lines.items → delays_of b ≡ delays_of a
-        → ((h : History) → ServerHolds a.server h → ServerHolds b.server (brought a.server (frame_in channels input) first (planar_frame a.ins count sums) count ++ h))
+    pub holds_then : (b : Player) → HasTaken (frame_in channels input) pool outs first count a b → delays_of b ≡ delays_of a
         → Holds b (run_from a (frame_in channels input) (samples pool outs a.wires.items) first count s)
-    holds_then b wires lines delays server = record {
-      lines = lines ∙ lines_are ∙ ap (λ ds. map reverse (windows_on ds (run_from a (frame_in channels input) (samples pool outs a.wires.items) first count s).passed)) (sym delays);
-      passed = passed_len ∙ sym (ap length wires);
-      kernel = subst (ServerHolds b.server) (came_is count (omega arith)) (server s.came holds.kernel);
+    holds_then b taken delays = record {
+      lines = taken.lines ∙ lines_are ∙ ap (λ ds. map reverse (windows_on ds (run_from a (frame_in channels input) (samples pool outs a.wires.items) first count s).passed)) (sym delays);
+      passed = passed_len ∙ sym (ap length taken.wires);
+      kernel = subst (ServerHolds b.server) (came_is count (omega arith)) (taken.holds s.came holds.kernel);
     }
 
 pub delays_stay : (ws : List Wire) (pool outs : List (List ℤ)) (first n : ℕ) (ls : List (List ℤ)) → length ls ≡ length ws
@@ -219,25 +284,20 @@ delays_stay (w ∷ ws) pool outs first n (l ∷ ls) e =
     ∙ ap (λ ks. length l ∷ ks) (delays_stay ws pool outs first n ls (omega (arith, e)))
 
 pub has_turned : (input : List ℤ) (channels : ℕ) (pool : List (List ℤ)) (homes : List Home) (outs : List (List ℤ)) (first count : ℕ) (a : Player)
-    → CanTurn input channels pool homes outs first count a → (sums : List ℤ) → length sums ≡ length a.sums.items
-    → ((d t : ℕ) → IsSet (channels_of a.wires.items) a.silent.items d → d * count + count ≤ length a.sums.items → t < count → get_or sums (d * count + t) (pos 0) ≡ sum_on d (channels_of a.wires.items) (taps_at a.wires.items pool outs first count a.lines.items t))
-    → (told : List ℤ) (b : Player) (outs' : List (List ℤ))
-    → b.wires.items ≡ a.wires.items → b.lines.items ≡ lines_after a.wires.items pool outs first count a.lines.items → b.ins ≡ a.ins → b.outs ≡ a.outs → SameServer a.server b.server
-    → ((h : History) → ServerHolds a.server h → ServerHolds b.server (brought a.server (frame_in channels input) first (planar_frame a.ins count sums) count ++ h))
-    → ((h : History) (c t : ℕ) → ServerHolds a.server h → c < a.outs → t < count → get_or told (c * count + t) (pos 0) ≡ get_or (given_by a.server (brought a.server (frame_in channels input) first (planar_frame a.ins count sums) (suc t) ++ h)) c (pos 0))
-    → ((o t : ℕ) (d : Home) → o < length homes → t < count → get_or (get_or outs' o []) (first + t) (pos 0) ≡ get_or told ((get_or homes o d).channel * count + t) (pos 0))
+    → CanTurn input channels pool homes outs first count a → (b : Player) (outs' : List (List ℤ)) → HasTaken (frame_in channels input) pool outs first count a b
+    → ((o t : ℕ) (d : Home) → o < length homes → t < count → get_or (get_or outs' o []) (first + t) (pos 0) ≡ get_or b.told.items ((get_or homes o d).channel * count + t) (pos 0))
     → ((o j : ℕ) → (j < first) ⊎ (first + count ≤ j) → get_or (get_or outs' o []) j (pos 0) ≡ get_or (get_or outs o []) j (pos 0))
     → ((o : ℕ) → length (get_or outs' o []) ≡ length (get_or outs o []))
     → HasPlayed (frame_in channels input) pool homes first count outs a outs' b
-has_turned input channels pool homes outs first count a can sums len summed_is told b outs' wires lines ins outs_same server kernel told_is wrote rest lengths =
-    let delays : delays_of b ≡ delays_of a = ap lengths_of lines ∙ delays_stay a.wires.items pool outs first count a.lines.items can.whole.lines in
+has_turned input channels pool homes outs first count a can b outs' taken wrote rest lengths =
+    let delays : delays_of b ≡ delays_of a = ap lengths_of taken.lines ∙ delays_stay a.wires.items pool outs first count a.lines.items can.take.whole.lines in
     record {
-      same = record { wires = wires; delays = delays; ins = ins; outs = outs_same; server = server };
-      holds = λ s h. holds_then input channels pool homes outs first count a can sums len summed_is s h b wires lines delays kernel;
+      same = record { wires = taken.wires; delays = delays; ins = taken.ins; outs = taken.outs_stay; server = taken.server };
+      holds = λ s h. holds_then input channels pool outs first count a can.take s h b taken delays;
       written = λ s o t d h lo lt.
           wrote o t d lo lt
-          ∙ told_is s.came (get_or homes o d).channel t h.kernel (can.values o d lo) lt
-          ∙ ap (λ z. get_or (given_by a.server z) (get_or homes o d).channel (pos 0)) (came_is input channels pool homes outs first count a can sums len summed_is s h (suc t) (omega arith));
+          ∙ taken.told s.came (get_or homes o d).channel t h.kernel (can.values o d lo) lt
+          ∙ ap (λ z. get_or (given_by a.server z) (get_or homes o d).channel (pos 0)) (came_is input channels pool outs first count a can.take s h (suc t) (omega arith));
       rest = rest;
       lengths = lengths;
     }
@@ -311,6 +371,11 @@ over_sums pool outs first count sums ws ws' silent silent' ls ls' m m' e s f g h
 pub over_lines : (pool outs : List (List ℤ)) (first count : ℕ) (new : List (List ℤ)) (ws ws' : List Wire) (ls ls' : List (List ℤ)) → ws' ≡ ws → ls' ≡ ls
     → new ≡ lines_after ws' pool outs first count ls' → new ≡ lines_after ws pool outs first count ls
 over_lines pool outs first count new ws ws' ls ls' e f h = h ∙ (λ i. lines_after (e i) pool outs first count (f i))
+
+pub over_told : (sv : Server) (block : ℕ → Frame) (frames : ℕ → Frame) (first count outs : ℕ) (told told' : List ℤ) → told' ≡ told
+    → ((h : History) (c t : ℕ) → ServerHolds sv h → c < outs → t < count → get_or told (c * count + t) (pos 0) ≡ get_or (given_by sv (brought sv block first frames (suc t) ++ h)) c (pos 0))
+    → (h : History) (c t : ℕ) → ServerHolds sv h → c < outs → t < count → get_or told' (c * count + t) (pos 0) ≡ get_or (given_by sv (brought sv block first frames (suc t) ++ h)) c (pos 0)
+over_told sv block frames first count outs told told' e f h c t at lc lt = ap (λ z. get_or z (c * count + t) (pos 0)) e ∙ f h c t at lc lt
 
 pub over_scatter : (homes : List Home) (outs' : List (List ℤ)) (first count : ℕ) (told told' : List ℤ) → told' ≡ told
     → ((o t : ℕ) (d : Home) → o < length homes → t < count → get_or (get_or outs' o []) (first + t) (pos 0) ≡ get_or told' ((get_or homes o d).channel * count + t) (pos 0))
@@ -406,23 +471,25 @@ module _ (input : List ℤ) (channels : ℕ) (pool : List (List ℤ)) (homes : L
       ∙ ap (λ (z : Kept). taps (delays_of a) z.passed) (goes_on (suc t) can.state)
       ∙ (let e : first + suc t ≡ suc (first + t) = omega arith in ap (λ k. taps (delays_of a) (run_from a (frame_in channels input) (samples pool outs a.wires.items) 0 k can.state).passed) e) in
       record {
-        whole = p.whole;
-        most = most;
-        size = let z = can.size in omega arith;
-        sources = sources;
+        take = record {
+          whole = p.whole;
+          most = most;
+          size = let z = can.size in omega arith;
+          sources = sources;
+          fit = λ t lt.
+              subst (λ ys. SumsFit (channels_of b.wires.items) ys) (sym (taps_then t lt))
+              (subst (λ ws. SumsFit (channels_of ws) (taps (delays_of a) (run_from a (frame_in channels input) (samples pool outs a.wires.items) 0 (suc (first + t)) can.state).passed)) (sym p.played.same.wires)
+              (can.fit (first + t) (omega arith)));
+          within = λ t lt.
+              subst (λ ys. IsWithinServer b.server (map (λ d. sum_on d (channels_of b.wires.items) ys) (range_with_len 0 b.ins))) (sym (taps_then t lt))
+              (subst (λ ws. IsWithinServer b.server (map (λ d. sum_on d (channels_of ws) (taps (delays_of a) (run_from a (frame_in channels input) (samples pool outs a.wires.items) 0 (suc (first + t)) can.state).passed)) (range_with_len 0 b.ins))) (sym p.played.same.wires)
+              (subst (λ k. IsWithinServer b.server (map (λ d. sum_on d (channels_of a.wires.items) (taps (delays_of a) (run_from a (frame_in channels input) (samples pool outs a.wires.items) 0 (suc (first + t)) can.state).passed)) (range_with_len 0 k))) (sym p.played.same.ins)
+              (within_same a.server b.server p.played.same.server _ (can.within (first + t) (omega arith)))));
+          entry = let l = can.entry in let m : (first + count) * channels ≤ n * channels = mul-le-mul_right channels le in omega arith;
+        };
         homes_len = can.homes_len ∙ sym p.len;
         values = λ o d lt. subst (λ k. (get_or homes o d).channel < k) (sym p.played.same.outs) (can.values o d lt);
         room = λ o lt. let l = can.room o (subst (λ k. o < k) p.len lt) in let z = p.played.lengths o in omega arith;
-        fit = λ t lt.
-            subst (λ ys. SumsFit (channels_of b.wires.items) ys) (sym (taps_then t lt))
-            (subst (λ ws. SumsFit (channels_of ws) (taps (delays_of a) (run_from a (frame_in channels input) (samples pool outs a.wires.items) 0 (suc (first + t)) can.state).passed)) (sym p.played.same.wires)
-            (can.fit (first + t) (omega arith)));
-        within = λ t lt.
-            subst (λ ys. IsWithinServer b.server (map (λ d. sum_on d (channels_of b.wires.items) ys) (range_with_len 0 b.ins))) (sym (taps_then t lt))
-            (subst (λ ws. IsWithinServer b.server (map (λ d. sum_on d (channels_of ws) (taps (delays_of a) (run_from a (frame_in channels input) (samples pool outs a.wires.items) 0 (suc (first + t)) can.state).passed)) (range_with_len 0 b.ins))) (sym p.played.same.wires)
-            (subst (λ k. IsWithinServer b.server (map (λ d. sum_on d (channels_of a.wires.items) (taps (delays_of a) (run_from a (frame_in channels input) (samples pool outs a.wires.items) 0 (suc (first + t)) can.state).passed)) (range_with_len 0 k))) (sym p.played.same.ins)
-            (within_same a.server b.server p.played.same.server _ (can.within (first + t) (omega arith)))));
-        entry = let l = can.entry in let m : (first + count) * channels ≤ n * channels = mul-le-mul_right channels le in omega arith;
       }
 
   pub playing_more : (count : ℕ) (outs'' : List (List ℤ)) (c : Player) → first + count ≤ n → IsWhole c → length outs'' ≡ length outs' → HasPlayed (frame_in channels input) pool homes first count outs' b outs'' c

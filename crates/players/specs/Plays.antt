@@ -1,13 +1,13 @@
 -- What a node does in a block: all its frames, against the pool and its own buffers as they are at the wave's start.
-use Rattle.std.specs.Prelude.{◌≡◌, ℕ, zero, suc, ◌+◌, ◌*◌, ◌^◌, ◌<◌, ◌≤◌, ◌⊎◌, ℤ, pos, List, [], ◌∷◌, length, map, reverse, slice_index_or, get_or}
+use Rattle.std.specs.Prelude.{◌≡◌, ℕ, zero, suc, ◌+◌, ◌*◌, ◌^◌, ◌<◌, ◌≤◌, ◌⊎◌, ℤ, pos, List, [], ◌∷◌, ◌++◌, length, map, reverse, slice_index_or, get_or}
 use Rattle.std.specs.List.{All, range_with_len}
-use Rattle.graph_model.specs.Histories.{Frame, frame_in}
+use Rattle.graph_model.specs.Histories.{Frame, History, frame_in}
 use Rattle.engine_model.specs.Machines.{Kept, passed_then, taps, sum_on, summed, windows_on}
 use Rattle.pool_waves.specs.declared.job.Home.{Home}
 use Rattle.players.specs.declared.gathering.Wire.{Wire}
 use Rattle.players.specs.declared.playing.Player.{Player}
-use Rattle.players.specs.Reads.{source, CanRead, channels_of, taps_at, KnowFirst, IsSet, SumsFit, lengths_of}
-use Rattle.players.specs.Servers.{FitsServer, IsWithinServer, SameServer, ServerHolds, given_by, taken_by}
+use Rattle.players.specs.Reads.{source, CanRead, channels_of, lines_after, taps_at, KnowFirst, IsSet, SumsFit, lengths_of}
+use Rattle.players.specs.Servers.{FitsServer, IsWithinServer, SameServer, ServerHolds, brought, given_by, taken_by}
 
 -- ---- frame by frame
 -- the samples that a node reads for frame k
@@ -66,20 +66,40 @@ pub record HasPlayed (block : ℕ → Frame) (pool : List (List ℤ)) (homes : L
   pub rest : (o j : ℕ) → (j < first) ⊎ (first + n ≤ j) → slice_index_or (slice_index_or outs' o []) j (pos 0) ≡ slice_index_or (slice_index_or outs o []) j (pos 0)
   pub lengths : (o : ℕ) → length (slice_index_or outs' o []) ≡ length (slice_index_or outs o [])
 
--- ---- when it may play
--- a sub-block
-pub record CanTurn (input : List ℤ) (channels : ℕ) (pool : List (List ℤ)) (homes : List Home) (outs : List (List ℤ)) (first count : ℕ) (a : Player) : Type 0 where
+-- ---- a sub-block
+-- the frames of sums
+abbrev pub gathered : Player → List (List ℤ) → List (List ℤ) → ℕ → ℕ → ℕ → Frame
+gathered a pool outs first count t = map (λ d. sum_on d (channels_of a.wires.items) (taps_at a.wires.items pool outs first count a.lines.items t)) (range_with_len 0 a.ins)
+
+-- it may take them
+pub record CanTake (input : List ℤ) (channels : ℕ) (pool outs : List (List ℤ)) (first count : ℕ) (a : Player) : Type 0 where
   pub whole : IsWhole a
   pub most : count ≤ 64
   pub size : first + count < 2 ^ 63
   pub sources : (i : ℕ) (d : Wire) → i < length a.wires.items → CanRead pool outs (first + count) (slice_index_or a.wires.items i d)
+  pub fit : (t : ℕ) → t < count → SumsFit (channels_of a.wires.items) (taps_at a.wires.items pool outs first count a.lines.items t)
+  pub within : (t : ℕ) → t < count → IsWithinServer a.server (gathered a pool outs first count t)
+  pub entry : (first + count) * channels ≤ length input
+
+-- and has taken them: what it gives then stands in its rows
+pub record HasTaken (block : ℕ → Frame) (pool outs : List (List ℤ)) (first count : ℕ) (a b : Player) : Type 0 where
+  pub wires : b.wires.items ≡ a.wires.items
+  pub lines : b.lines.items ≡ lines_after a.wires.items pool outs first count a.lines.items
+  pub ins : b.ins ≡ a.ins
+  pub outs_stay : b.outs ≡ a.outs
+  pub server : SameServer a.server b.server
+  pub holds : (h : History) → ServerHolds a.server h → ServerHolds b.server (brought a.server block first (gathered a pool outs first count) count ++ h)
+  pub told : (h : History) (c t : ℕ) → ServerHolds a.server h → c < a.outs → t < count
+      → get_or b.told.items (c * count + t) (pos 0) ≡ get_or (given_by a.server (brought a.server block first (gathered a pool outs first count) (suc t) ++ h)) c (pos 0)
+
+-- it may take them and write what it gives into the buffers of these homes
+pub record CanTurn (input : List ℤ) (channels : ℕ) (pool : List (List ℤ)) (homes : List Home) (outs : List (List ℤ)) (first count : ℕ) (a : Player) : Type 0 where
+  pub take : CanTake input channels pool outs first count a
   pub homes_len : length homes ≡ length outs
   pub values : (o : ℕ) (d : Home) → o < length homes → (slice_index_or homes o d).channel < a.outs
   pub room : (o : ℕ) → o < length outs → first + count ≤ length (slice_index_or outs o [])
-  pub fit : (t : ℕ) → t < count → SumsFit (channels_of a.wires.items) (taps_at a.wires.items pool outs first count a.lines.items t)
-  pub within : (t : ℕ) → t < count → IsWithinServer a.server (map (λ d. sum_on d (channels_of a.wires.items) (taps_at a.wires.items pool outs first count a.lines.items t)) (range_with_len 0 a.ins))
-  pub entry : (first + count) * channels ≤ length input
 
+-- ---- a block
 -- a block, in sub-blocks: what it sums is not too large, whatever it holds
 pub record CanPlay (input : List ℤ) (channels : ℕ) (pool : List (List ℤ)) (homes : List Home) (outs : List (List ℤ)) (n : ℕ) (a : Player) : Type 0 where
   pub whole : IsWhole a
@@ -94,7 +114,7 @@ pub record CanPlay (input : List ℤ) (channels : ℕ) (pool : List (List ℤ)) 
   pub within : (t : ℕ) → t < n → IsWithinServer a.server (summed a.ins (channels_of a.wires.items) (delays_of a) (run_from a (frame_in channels input) (samples pool outs a.wires.items) 0 (suc t) state).passed)
   pub entry : n * channels ≤ length input
 
--- ---- what a block leaves of it
+-- what it leaves of it
 pub record PlayerDone (block : ℕ → Frame) (n : ℕ) (pool : List (List ℤ)) (homes : List Home) (outs : List (List ℤ)) (a : Player) (outs' : List (List ℤ)) (b : Player) : Type 0 where
   pub whole : IsWhole b
   pub played : HasPlayed block pool homes 0 n outs a outs' b

@@ -64,3 +64,10 @@ begun false x = x
 -- no part of a sum is too large
 abbrev pub SumsFit : List ℕ → List ℤ → Type 0
 SumsFit channels samples = (d m : ℕ) → FitsSigned w64 (sum_on d (take m channels) (take m samples))
+
+-- the samples of a sub-block are all that comes in: they come by one wire, without delay, to the only channel
+pub record IsAlone (ws : List Wire) (ls : List (List ℤ)) (wide : ℕ) (pool outs : List (List ℤ)) (first n : ℕ) (alone : List ℤ) : Type 0 where
+  pub one : length ws ≡ 1
+  pub ins : wide ≡ 1
+  pub at_once : slice_index_or ls 0 [] ≡ []
+  pub samples : (w : Wire) → alone ≡ part first n (source pool outs (slice_index_or ws 0 w))

@@ -24,3 +24,6 @@ pub use leaving::Leaving;
 pub use part::Stage;
 pub use playing::{Player, SUB, Server};
 pub use scattering::scatter;
+
+#[cfg(test)]
+mod tests;

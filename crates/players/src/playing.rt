@@ -3,10 +3,10 @@
 ghost use Rattle.std.specs.Prelude.{◌≡◌, ℕ, ◌+◌, ◌*◌, ◌^◌, ◌<◌, ◌≤◌, ◌++◌, suc, pos, length, get_or};
 ghost use Rattle.graph_model.specs.Blocks.{planar_frame};
 ghost use Rattle.graph_model.specs.Histories.{History, frame_in};
-ghost use Rattle.players.specs.Plays.{CanPlay, CanTurn, HasPlayed, IsWhole};
+ghost use Rattle.players.specs.Plays.{CanPlay, CanTake, CanTurn, HasPlayed, HasTaken, IsWhole};
 ghost use Rattle.players.specs.Servers.{FitsServer, IsWithinServer, SameServer, ServerHolds, brought, given_by};
 
-use crate::gathering::{Wire, gather};
+use crate::gathering::{Wire, alone, gather};
 use crate::leaving::Leaving;
 use crate::scattering::scatter;
 use crate::serving::{enter, process};
@@ -87,7 +87,55 @@ pub struct Player {
 }
 
 impl Player {
-    /// Takes a sub-block: all its inputs are read before an output is written.
+    /// Takes a sub-block. What it gives stands in `told` then.
+    fn take(
+        &mut self,
+        input: &[i64],
+        channels: usize,
+        pool: &[Buffer],
+        outs: &[Buffer],
+        first: usize,
+        count: usize,
+    )
+        requires { CanTake input.now channels pool.now outs.now first count self.old }
+        ensures whole { IsWhole self.new }
+        ensures taken { HasTaken (frame_in channels input.now) pool.now outs.now first count self.old self.new }
+    {
+        let wires = self.wires.as_slice();
+        let told = self.told.as_mut_slice();
+        match alone(
+            wires,
+            self.lines.as_slice(),
+            self.ins,
+            pool,
+            outs,
+            first,
+            count,
+        ) {
+            Some(samples) => self.server.serve(
+                input, channels, first, count, self.ins, self.outs, samples, told,
+            ),
+            None => {
+                let sums = self.sums.as_mut_slice();
+                gather(
+                    wires,
+                    self.silent.as_slice(),
+                    pool,
+                    outs,
+                    first,
+                    count,
+                    self.lines.as_mut_slice(),
+                    sums,
+                    self.spare.as_mut_slice(),
+                );
+                self.server.serve(
+                    input, channels, first, count, self.ins, self.outs, sums, told,
+                );
+            }
+        }
+    }
+
+    /// Takes a sub-block, and writes what it gives: all its inputs are read before an output is written.
     fn turn(
         &mut self,
         input: &[i64],
@@ -103,27 +151,7 @@ impl Player {
         ensures len { length outs.new ≡ length outs.old }
         ensures played { HasPlayed (frame_in channels input.now) pool.now homes.now first count outs.old self.old outs.new self.new }
     {
-        gather(
-            self.wires.as_slice(),
-            self.silent.as_slice(),
-            pool,
-            outs,
-            first,
-            count,
-            self.lines.as_mut_slice(),
-            self.sums.as_mut_slice(),
-            self.spare.as_mut_slice(),
-        );
-        self.server.serve(
-            input,
-            channels,
-            first,
-            count,
-            self.ins,
-            self.outs,
-            self.sums.as_slice(),
-            self.told.as_mut_slice(),
-        );
+        self.take(input, channels, pool, outs, first, count);
         scatter(homes, self.told.as_slice(), first, count, outs);
     }
 
