@@ -1,0 +1,16 @@
+pub mod Lines
+pub mod Blocks
+pub mod Renders
+pub mod Steps
+pub mod MachineLaws
+pub mod Plans
+pub mod Runs
+pub mod OrderLaws
+pub mod OutputFacts
+pub mod StateTimes
+pub mod NewJobs
+pub mod EngineLaws
+pub mod CuttingLaws
+pub mod Headroom
+pub mod Examples
+pub mod Inputs

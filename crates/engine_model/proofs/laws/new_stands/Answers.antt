@@ -1,0 +1,5 @@
+use Rattle.engine_model.proofs.NewJobs.{new_stand}
+use Rattle.engine_model.proofs.laws.new_stands.Goals as goal
+
+pub returns : goal.returns
+returns c = new_stand

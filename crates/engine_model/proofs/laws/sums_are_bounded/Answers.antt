@@ -1,0 +1,5 @@
+use Rattle.engine_model.proofs.Headroom.{sums_are_bounded}
+use Rattle.engine_model.proofs.laws.sums_are_bounded.Goals as goal
+
+pub returns : goal.returns
+returns c = sums_are_bounded

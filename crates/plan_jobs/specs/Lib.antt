@@ -1,0 +1,4 @@
+pub mod Jobs
+pub mod Made
+pub mod Hinges
+pub mod Blocks

@@ -1,0 +1,6 @@
+pub mod PartFacts
+pub mod GatherFacts
+pub mod ScatterFacts
+pub mod ServeFacts
+pub mod PlayFacts
+pub mod TestFacts

@@ -1,0 +1,4 @@
+pub mod Reads
+pub mod Servers
+pub mod Plays
+pub mod Lone
