@@ -331,54 +331,6 @@ fn the_report_fails(rt: HostRuntime) -> Result<(), Fail> {
     Ok(())
 }
 
-/// The command line, the graph, the input, and the text of the end.
-const REFUSED: &str = "\
-render > straight > three frames > the words are no request
-render -g in.wav out.wav > straight > three frames > the words are no request
-render g.json in.wav out.wav --bits 12 > straight > three frames > the words are no request
-render g.json in.wav out.wav --block 1 --cuts 1 > straight > three frames > the words are no request
-compile g.json in.wav > straight > three frames > the words are no request
-demo 1 two > straight > three frames > the words are no request
-demo 1 2 > straight > three frames > a number of demo is out of range
-render g.json in.wav in.wav > straight > three frames > input and output have the same name
-render none in.wav out.wav > straight > three frames > a read failed
-render g.json none out.wav > straight > three frames > a read failed
-check g.json none > straight > three frames > a read failed
-render g.json in.wav out.wav > no JSON > three frames > graph: no JSON text
-render g.json in.wav out.wav > no node > three frames > graph: connection 0: no node 9
-render g.json in.wav out.wav > straight > no WAVE > wav: not a WAVE file
-render g.json in.wav out.wav --tail 2147483629 > straight > three frames > wav: 4294967264 bytes of output
-check g.json in.wav > straight > bad plan > plan: line 3";
-
-#[test]
-fn refusals_leave_everything(rt: HostRuntime) -> Result<(), Fail> {
-    let alloc = rt.alloc();
-    for case in REFUSED.lines() {
-        let mut parts = case.split(" > ");
-        let line = parts.next().unwrap_or("");
-        let graph = parts.next().unwrap_or("");
-        let input = parts.next().unwrap_or("");
-        let wanted = parts.next().unwrap_or("");
-        let mut folder = folder(alloc, graph, input, &[])?;
-        folder.put_file("out.wav", b"before")?;
-        let mut report = MemorySink::new(alloc, List::new(alloc), 1000)?;
-        let run = run_line(&rt, line, &mut folder, &mut report)?;
-        assert_eq!(rt; run.end.to_string(alloc)?.as_str(), wanted, "{case}");
-        assert_eq!(rt;
-            folder.file("out.wav"),
-            Some(b"before".as_slice()),
-            "{case}"
-        );
-        assert_eq!(rt; folder.file("g.json"), Some(named(graph)), "{case}");
-        assert_eq!(rt; folder.file("in.wav"), Some(named(input)), "{case}");
-        assert_eq!(rt; folder.read_faults(), 0, "{case}");
-        assert_eq!(rt; folder.write_faults(), 0, "{case}");
-        assert_eq!(rt; report.bytes(), [].as_slice(), "{case}");
-        assert!(rt; run.plan.is_none(), "{case}");
-    }
-    Ok(())
-}
-
 #[test]
 fn nothing_is_read_after_a_refusal(rt: HostRuntime) -> Result<(), Fail> {
     let alloc = rt.alloc();
