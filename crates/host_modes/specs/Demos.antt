@@ -1,6 +1,8 @@
 -- What a demonstration shows: a generated graph, its plan, and its answer to generated samples.
 use Rattle.std.specs.Prelude.{ℕ, ◌+◌, ◌*◌, List, [], ◌∷◌, ◌++◌, codes, length, sum}
 use Rattle.std.specs.Fmt.{decimal}
+use Rattle.graph_model.specs.Graphs.{in_channels}
+use Rattle.graph_model.specs.Histories.{History, frames_of, silence}
 use Rattle.graph_model.specs.Paths.{latency_of_graph}
 use Rattle.graph_model.specs.declared.graph.Graph.{Graph}
 use Rattle.graph_gen.specs.Draws.{samples_drawn}
@@ -20,6 +22,10 @@ demo_frames = 4800
 -- the graph's answer to so many frames of two channels, and then to silence as long as its latency, in samples of 16 bits
 unfoldable pub demo_bytes : DemoRequest → List ℕ
 demo_bytes q = let g = demo_graph q in bytes_of 16 (answered g (latency_of_graph g) (samples_drawn q.seed (demo_frames * 2)))
+
+-- the history of the frames that come in, where so many of silence come after the samples
+abbrev pub demo_input : DemoRequest → ℕ → History
+demo_input q silent = silence silent (in_channels (demo_graph q)) ++ frames_of (in_channels (demo_graph q)) (samples_drawn q.seed (demo_frames * 2))
 
 -- a word, a space, a number, and byte 10
 unfoldable pub row : List ℕ → ℕ → List ℕ

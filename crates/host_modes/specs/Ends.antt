@@ -1,5 +1,7 @@
 -- Which ends come before anything is reported.
-use Rattle.std.specs.Prelude.{⊤}
+use Rattle.std.specs.Prelude.{Result, Ok, Err, ⊤}
+use Rattle.streaming.specs.declared.ends.StreamFault.{StreamFault}
+use Rattle.streaming.specs.declared.ends.StreamFault.TheVariants.{Read, Write}
 use Rattle.host_modes.specs.declared.ends.End.{End}
 use Rattle.host_modes.specs.declared.ends.End.TheVariants.{Done, No, Records, Graph, Wav, ReadFault, WriteFault, ReportFault, Memory, PlanText}
 
@@ -20,3 +22,9 @@ IsOfFiles ReadFault = ⊤
 IsOfFiles (PlanText line) = ⊤
 IsOfFiles Memory = ⊤
 IsOfFiles end = ⊥
+
+-- what has been reported ends so, by how the output was written
+abbrev pub end_by : Result ⊤ StreamFault → End
+end_by (Ok u) = Done
+end_by (Err Read) = ReadFault
+end_by (Err Write) = WriteFault

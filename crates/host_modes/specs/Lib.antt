@@ -7,9 +7,9 @@ pub mod Demos
 pub mod Readings
 pub mod Plans
 pub mod Works
+pub mod Engines
 pub mod Causes
 pub mod Steps
-pub mod Recordings
 pub mod Files
 pub mod Runs
 pub mod Laws

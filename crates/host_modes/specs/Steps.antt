@@ -1,8 +1,8 @@
 -- What the steps of a run find under a name, where the folder tells.
-use Rattle.std.specs.Prelude.{◌≡◌, ℕ, ℤ, ◌-◌, ◌^◌, ◌<◌, min, List, ◌++◌, take, Option, Some, None, Ok, Err, ◌⊎◌, ⊤}
+use Rattle.std.specs.Prelude.{◌≡◌, ℕ, ◌-◌, ◌^◌, ◌<◌, min, List, Option, Some, None, Ok, Err, ⊤}
 use Rattle.graph_model.specs.declared.graph.Graph.{Graph}
 use Rattle.connections.specs.Faults.{IsFirstFault}
-use Rattle.gh_outside.specs.Holdings.{Holding, Holds}
+use Rattle.gh_outside.specs.Holdings.{Holding}
 use Rattle.wav_pcm.specs.Files.{ReadsAs}
 use Rattle.wav_pcm.specs.Heads.{most_data}
 use Rattle.wav_pcm.specs.declared.head.Head.{Head}
@@ -13,7 +13,6 @@ use Rattle.host_modes.specs.Outputs.{data_bytes}
 use Rattle.command_words.specs.Rendering.{RenderRequest}
 use Rattle.host_modes.specs.declared.ends.End.{End}
 use Rattle.host_modes.specs.declared.ends.End.TheVariants.{Graph as Checks, Wav, ReadFault, Memory}
-use Rattle.host_modes.specs.Readings.{HoldsRecording}
 
 -- the checks of a graph end it so
 abbrev pub Refuses : Graph → End → Type 0
@@ -36,22 +35,3 @@ IsHeadEnd name g (Some files) end = ⊥
 -- the output has more bytes of frames than a WAV file can
 abbrev pub IsTooLong : RenderRequest → Graph → Head → End → Type 0
 IsTooLong q g head end = (most_data < data_bytes q g head) × (end ≡ Wav (TooLong (min (data_bytes q g head) (2 ^ 64 - 1))))
-
--- the name holds a file with this head and these samples
-abbrev pub FindsRecording : List ℕ → Graph → Head → List ℤ → Option Holding → Type 0
-FindsRecording name g head samples None = ⊤
-FindsRecording name g head samples (Some files) = HoldsRecording name g head samples files
-
--- whatever the name held, it holds that and then the piece
-abbrev pub IsAppended : List ℕ → List ℕ → Option Holding → Option Holding → Type 0
-IsAppended name piece old new = (start : List ℕ) → Holds name start old → Holds name (start ++ piece) new
-
--- or the first of the piece
-abbrev pub IsPartAppended : List ℕ → List ℕ → Option Holding → Option Holding → Type 0
-IsPartAppended name piece old None = ⊤
-IsPartAppended name piece old (Some files) = (start : List ℕ) → Holds name start old → (n : ℕ) × (files name ≡ Some (start ++ take n piece))
-
--- the name holds a first part of these bytes, or what it held
-abbrev pub IsPart : List ℕ → List ℕ → Option Holding → Option Holding → Type 0
-IsPart name bytes (Some old) (Some new) = (new name ≡ old name) ⊎ ((n : ℕ) × (new name ≡ Some (take n bytes)))
-IsPart name bytes old new = ⊤

@@ -16,9 +16,11 @@ use command_words::{Request, WordsFault, request};
 use gh_outside::{Folder, Sink};
 use graph_model::Refused;
 use std::alloc::Global;
+use std::thread::Threads;
 
 /// Does what is asked for.
-fn answered<F: Folder, R: Sink>(
+fn answered<T: Threads + Sync, F: Folder, R: Sink>(
+    rt: &T,
     alloc: Global,
     asked: Result<Request, Refused<WordsFault>>,
     folder: &mut F,
@@ -28,25 +30,16 @@ fn answered<F: Folder, R: Sink>(
     ensures { (a : Asked) → Gives a (mapped said asked.entry) → IsRun a
         (outside (F.held folder.old) (F.read_faults folder.old) (F.write_faults folder.old) (R.bytes report.old) (R.faults report.old))
         (outside (F.held folder.new) (F.read_faults folder.new) (F.write_faults folder.new) (R.bytes report.new) (R.faults report.new))
-        result.end result.plan }
+        result.end result.plan result.engine }
 {
     match asked {
-        Ok(Request::Render(request)) => render(alloc, &request, folder, report),
+        Ok(Request::Render(request)) => render(rt, alloc, &request, folder, report),
         Ok(Request::Compile(request)) => compile(alloc, &request, folder, report),
         Ok(Request::Check(request)) => check(alloc, &request, folder, report),
-        Ok(Request::Demo(request)) => demo(alloc, &request, folder, report),
-        Err(Refused::Fault(WordsFault::NoRequest)) => Outcome {
-            end: End::Words,
-            plan: None,
-        },
-        Err(Refused::Fault(WordsFault::OutOfRange)) => Outcome {
-            end: End::Seed,
-            plan: None,
-        },
-        Err(Refused::Memory) => Outcome {
-            end: End::Memory,
-            plan: None,
-        },
+        Ok(Request::Demo(request)) => demo(rt, alloc, &request, folder, report),
+        Err(Refused::Fault(WordsFault::NoRequest)) => Outcome::early(End::Words),
+        Err(Refused::Fault(WordsFault::OutOfRange)) => Outcome::early(End::Seed),
+        Err(Refused::Memory) => Outcome::early(End::Memory),
     }
 }
 
@@ -54,7 +47,8 @@ fn answered<F: Folder, R: Sink>(
 ///
 /// What it leaves of the files and of the report, what it hands back, why it ended and how the counts stand is one record,
 /// `IsRun`, over what the words ask for.
-pub fn perform<F: Folder, R: Sink>(
+pub fn perform<T: Threads + Sync, F: Folder, R: Sink>(
+    rt: &T,
     alloc: Global,
     words: &[String],
     folder: &mut F,
@@ -63,8 +57,8 @@ pub fn perform<F: Folder, R: Sink>(
     ensures { IsRun (request_of (map string_bytes words.now))
         (outside (F.held folder.old) (F.read_faults folder.old) (F.write_faults folder.old) (R.bytes report.old) (R.faults report.old))
         (outside (F.held folder.new) (F.read_faults folder.new) (F.write_faults folder.new) (R.bytes report.new) (R.faults report.new))
-        result.end result.plan }
+        result.end result.plan result.engine }
 {
     let asked = request(alloc, words);
-    answered(alloc, asked, folder, report)
+    answered(rt, alloc, asked, folder, report)
 }

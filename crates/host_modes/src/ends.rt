@@ -1,8 +1,9 @@
 //! How a run ends.
 
-ghost use Rattle.std.specs.Prelude.{◌≡◌};
+ghost use Rattle.std.specs.Prelude.{◌≡◌, None};
 
 use connections::GraphFault;
+use engine::Engine;
 use graph_records::RecordFault;
 use plan_model::{Plan, Rule};
 use thiserror::Error;
@@ -35,7 +36,9 @@ pub enum End {
     /// The input is no WAV file for the graph, or its output would be too long. Nothing was reported or written.
     #[error("wav: {0}")]
     Wav(WavFault),
-    /// A read failed, or a file that the request reads is not there. Nothing was reported or written.
+    /// A read failed, or a file that the request reads is not there. Nothing was reported or written; or, in `render`, the
+    /// plan was reported, and the output holds its head and just those of the frames that the engine has rendered which
+    /// are kept.
     #[error("a read failed")]
     ReadFault,
     /// A write failed. The output is as it was, or holds a first part of the file.
@@ -52,10 +55,27 @@ pub enum End {
     PlanText { line: u64 },
 }
 
-/// How a run ended, and its plan.
-#[derive(Debug, PartialEq, Eq, Drop)]
+/// How a run ended, its plan and its engine.
+#[derive(Drop)]
 pub struct Outcome {
     pub end: End,
     /// The plan that was made, or judged in `check`, where the run came to its report.
     pub plan: Option<Plan>,
+    /// The engine that rendered, in `render` and `demo`, where the run came to its report.
+    pub engine: Option<Engine>,
+}
+
+impl Outcome {
+    /// An end before anything was reported.
+    pub(crate) fn early(end: End) -> Outcome
+        ensures end { result.end ≡ end }
+        ensures plan { result.plan ≡ None }
+        ensures engine { result.engine ≡ None }
+    {
+        Outcome {
+            end,
+            plan: None,
+            engine: None,
+        }
+    }
 }

@@ -75,10 +75,10 @@ pub(crate) fn compile<F: Folder, R: Sink>(
     ensures { IsRun (Asks (compile (compile_said request.now)))
         (outside (F.held folder.old) (F.read_faults folder.old) (F.write_faults folder.old) (R.bytes report.old) (R.faults report.old))
         (outside (F.held folder.new) (F.read_faults folder.new) (F.write_faults folder.new) (R.bytes report.new) (R.faults report.new))
-        result.end result.plan }
+        result.end result.plan result.engine }
 {
     match prepare(alloc, folder, request) {
-        Ok(work) => reported(report, work),
-        Err(end) => Outcome { end, plan: None },
+        Ok(work) => reported(report, work, None),
+        Err(end) => Outcome::early(end),
     }
 }

@@ -1,90 +1,42 @@
-//! The output file, made in memory and then written.
+//! The output file, written as it is rendered.
 
-ghost use Rattle.std.specs.Prelude.{◌≡◌, ◌*◌, ◌/◌, ◌%◌, ◌^◌, ◌<◌, ◌≤◌, ◌⊎◌, IfOk, OnOk, OnErr, drop, length, replicate};
-ghost use Rattle.graph_model.specs.Answers.{answer};
-ghost use Rattle.graph_model.specs.Bounds.{AreUpTo};
-ghost use Rattle.graph_model.specs.Histories.{frames_of, interleaved};
-ghost use Rattle.graph_model.specs.Sound.{IsSound};
-ghost use Rattle.plan_model.specs.Certified.{IsCertified};
+ghost use Rattle.std.specs.Prelude.{◌≡◌, ◌≢◌, ◌*◌, ◌/◌, ◌%◌, ◌^◌, ◌<◌, ◌≤◌, ◌⊎◌, ℕ, [], Err as Fails, OnOk, OnErr, replicate};
 ghost use Rattle.gh_outside.specs.Causes.{Rose};
-ghost use Rattle.gh_outside.specs.Holdings.{Holds, IsMissing, KeepsOthers};
+ghost use Rattle.gh_outside.specs.Holdings.{HeldBytes, Holds, IsMissing, KeepsOthers};
 ghost use Rattle.wav_pcm.specs.Heads.{most_data};
-ghost use Rattle.wav_pcm.specs.Samples.{bytes_of};
-ghost use Rattle.graph_model.specs.Graphs.{in_channels, out_channels};
-ghost use Rattle.host_modes.specs.Files.{file_of, rendered, HasRoom};
-ghost use Rattle.host_modes.specs.Forms.{written_frames, IsForm};
-ghost use Rattle.host_modes.specs.Steps.{IsAppended, IsPart, IsPartAppended};
+ghost use Rattle.engine_model.specs.Engines.{IsSame, Stands};
+ghost use Rattle.streaming.specs.Appends.{IsAppended, IsPart, IsPartAppended};
+ghost use Rattle.streaming.specs.Blocks.{all_frames, first_frames, AreLengths, HasRoom, MayStream};
+ghost use Rattle.streaming.specs.declared.ends.StreamFault.TheVariants as Fault;
+ghost use Rattle.command_words.specs.Rendering.{render_said};
+ghost use Rattle.host_modes.specs.Files.{part_of, whole_of, IsRenderingOf};
+ghost use Rattle.host_modes.specs.Forms.{written_frames, IsForm, IsFormOf};
 
-use crate::output::forms::Form;
-use crate::reading::recordings::Recording;
-use connections::Checked;
+use crate::reading::recordings::Input;
+use command_words::RenderRequest;
+use engine::Engine;
 use gh_outside::{Failed, Folder};
-use graph_model::List;
-use plan_model::Plan;
-use renderer::answer_at;
-use std::alloc::{AllocError, Global};
-use wav_pcm::{head_bytes, put_frames};
+use std::thread::Threads;
+use streaming::{Incoming, Outgoing, Room, StreamFault, stream};
+use wav_pcm::head_bytes;
 
-/// An output file: its head, the samples of its frames, interleaved and scaled to 32 bits, the bits of a sample, and
-/// room for the bytes of the frames.
-#[derive(Drop)]
-pub(crate) struct OutputFile {
-    head: [u8; 44],
-    samples: List<i64>,
-    bits: u32,
-    bytes: Vec<u8>,
+/// What is written: where its frames come from and where they go, the head of the file, and how many bytes its frames
+/// have in all.
+pub(crate) struct Rendering<'a> {
+    pub(crate) from: Incoming<'a>,
+    pub(crate) to: Outgoing<'a>,
+    pub(crate) head: [u8; 44],
+    pub(crate) data_bytes: u64,
 }
 
-/// The samples but for the first of them.
-fn without_first(alloc: Global, samples: List<i64>, count: usize) -> Result<List<i64>, AllocError>
-    requires { count ≤ length samples }
-    ensures { IfOk result (λ v. v ≡ drop count samples) }
+/// What a request has written, in the form of its output.
+pub(crate) fn rendering<'a>(request: &RenderRequest<'a>, input: &Input) -> Rendering<'a>
+    requires good { IsForm input.now.form }
+    requires short { written_frames input.now.form * (input.now.form.channels * (input.now.form.bits / 8)) ≤ most_data }
+    requires few { (input.now.form.frames ≤ 2 ^ 33) × (input.now.form.skipped ≤ input.now.form.frames) }
+    ensures { (g : Graph) → IsFormOf (render_said request.now) g input.now.head input.now.form → IsRenderingOf (render_said request.now) g input.now.head result }
 {
-    if count == 0 {
-        return Ok(samples);
-    }
-    List::from_slice(alloc, &samples.as_slice()[count..])
-}
-
-/// The graph's answer to whole frames, rendered where its plan puts the nodes.
-pub(crate) fn planned_answer(
-    alloc: Global,
-    graph: &Checked,
-    plan: &Plan,
-    samples: &[i64],
-) -> Result<List<i64>, AllocError>
-    requires sound { IsSound graph.now }
-    requires plan { IsCertified graph.now plan.now }
-    requires whole { length samples.now % in_channels graph.now ≡ 0 }
-    requires small { AreUpTo (2 ^ 31) samples.now }
-    ensures { IfOk result (λ v. v ≡ interleaved (answer graph.now (frames_of (in_channels graph.now) samples.now))) }
-{
-    answer_at(alloc, graph, &plan.at, samples)
-}
-
-/// What a graph makes of a recording.
-pub(crate) fn rendered_file(
-    alloc: Global,
-    graph: &Checked,
-    plan: &Plan,
-    recording: &Recording,
-) -> Result<OutputFile, AllocError>
-    requires sound { IsSound graph.now }
-    requires plan { IsCertified graph.now plan.now }
-    requires form { IsForm recording.now.form }
-    requires channels { recording.now.form.channels ≡ out_channels graph.now }
-    requires short { written_frames recording.now.form * (recording.now.form.channels * (recording.now.form.bits / 8)) ≤ most_data }
-    requires few { (recording.now.form.frames ≤ 2 ^ 33) × (recording.now.form.skipped ≤ recording.now.form.frames) }
-    requires whole { length recording.now.samples.items ≡ recording.now.form.frames * in_channels graph.now }
-    requires small { AreUpTo (2 ^ 31) recording.now.samples.items }
-    ensures file { IfOk result (λ o. file_of o ≡ rendered graph.now recording.now.form recording.now.samples.items) }
-    ensures room { IfOk result HasRoom }
-{
-    let form = &recording.form;
-    let answer = planned_answer(alloc, graph, plan, recording.samples.as_slice())?;
-    let skipped = form.skipped as usize * form.channels as usize;
-    let samples = without_first(alloc, answer, skipped)?;
-    let bytes = vec![in alloc; 0u8; samples.len() * (form.bits as usize / 8)]?;
+    let form = &input.form;
     let mut head = [0; 44];
     head_bytes(
         form.channels,
@@ -93,39 +45,38 @@ pub(crate) fn rendered_file(
         form.written() as u64,
         &mut head,
     );
-    Ok(OutputFile {
+    Rendering {
+        from: Incoming {
+            name: request.input,
+            head: input.head,
+            silent: form.silent as u64,
+        },
+        to: Outgoing {
+            name: request.output,
+            channels: form.channels,
+            bits: form.bits,
+            skipped: form.skipped as u64,
+        },
         head,
-        samples,
-        bits: form.bits,
-        bytes,
-    })
+        data_bytes: form.data_bytes() as u64,
+    }
 }
 
-/// Appends the frames of the output, if there are any.
-fn append_frames<F: Folder>(folder: &mut F, name: &str, file: &mut OutputFile) -> Result<(), Failed>
-    requires { HasRoom file.old }
+/// Makes a file that holds a head.
+fn begin<F: Folder>(folder: &mut F, name: &str, head: &[u8; 44]) -> Result<(), Failed>
     ensures others { KeepsOthers name.now (F.held folder.old) (F.held folder.new) }
-    ensures ok { OnOk result (IsAppended name.now (bytes_of file.old.bits file.old.samples) (F.held folder.old) (F.held folder.new)) }
-    ensures part { OnErr result (IsPartAppended name.now (bytes_of file.old.bits file.old.samples) (F.held folder.old) (F.held folder.new)) }
-    ensures failed { OnErr result (Rose (F.write_faults folder.old) (F.write_faults folder.new) ⊎ IsMissing name.now (F.held folder.old)) }
-    ensures room { length file.new.bytes.items ≡ length file.old.bytes.items }
+    ensures ok { OnOk result (Holds name.now head.now (F.held folder.new)) }
+    ensures part { IsPart name.now head.now (F.held folder.old) (F.held folder.new) }
+    ensures failed { OnErr result (Rose (F.write_faults folder.old) (F.write_faults folder.new)) }
     ensures reads { F.read_faults folder.new ≡ F.read_faults folder.old }
     ensures writes { F.write_faults folder.old ≤ F.write_faults folder.new }
 {
-    if file.samples.len() == 0 {
-        return Ok(());
-    }
-    put_frames(
-        folder,
-        name,
-        file.bits,
-        file.samples.as_slice(),
-        &mut file.bytes,
-    )
+    folder.create(name)?;
+    folder.append(name, head)
 }
 
 /// Appends a byte 0 after an odd number of bytes.
-fn append_pad<F: Folder>(folder: &mut F, name: &str, count: usize) -> Result<(), Failed>
+fn append_pad<F: Folder>(folder: &mut F, name: &str, count: u64) -> Result<(), Failed>
     ensures others { KeepsOthers name.now (F.held folder.old) (F.held folder.new) }
     ensures ok { OnOk result (IsAppended name.now (replicate (count % 2) 0) (F.held folder.old) (F.held folder.new)) }
     ensures part { OnErr result (IsPartAppended name.now (replicate (count % 2) 0) (F.held folder.old) (F.held folder.new)) }
@@ -139,23 +90,49 @@ fn append_pad<F: Folder>(folder: &mut F, name: &str, count: usize) -> Result<(),
     folder.append(name, &[0])
 }
 
-/// Makes a file of the output: its head, then its frames, if there are any, and a byte 0 where their bytes are odd in
-/// number.
-pub(crate) fn write_file<F: Folder>(
+/// Makes a file of its head, of the frames as they are rendered block by block, and of a byte 0 where their bytes are
+/// odd in number. It takes no memory.
+pub(crate) fn write_file<T: Threads + Sync, F: Folder>(
+    rt: &T,
     folder: &mut F,
-    name: &str,
-    file: &mut OutputFile,
-) -> Result<(), Failed>
-    requires { HasRoom file.old }
-    ensures others { KeepsOthers name.now (F.held folder.old) (F.held folder.new) }
-    ensures ok { OnOk result (Holds name.now (file_of file.old) (F.held folder.new)) }
-    ensures part { IsPart name.now (file_of file.old) (F.held folder.old) (F.held folder.new) }
-    ensures failed { OnErr result (Rose (F.write_faults folder.old) (F.write_faults folder.new)) }
-    ensures reads { F.read_faults folder.new ≡ F.read_faults folder.old }
+    rendering: &Rendering,
+    lengths: &[u32],
+    engine: &mut Engine,
+    room: &mut Room,
+) -> Result<(), StreamFault>
+    requires may { MayStream rendering.now.from rendering.now.to engine.old (F.held folder.old) }
+    requires lengths { AreLengths engine.old.block lengths.now }
+    requires room { HasRoom rendering.now.from rendering.now.to engine.old.block room.old }
+    requires new { Stands engine.old [] }
+    ensures others { KeepsOthers rendering.now.to.name.now (F.held folder.old) (F.held folder.new) }
+    ensures same { IsSame engine.old engine.new }
+    ensures done { OnOk result (HeldBytes rendering.now.from.name.now (F.held folder.old)
+        (λ file. Stands engine.new (first_frames rendering.now.from file (all_frames rendering.now.from)) × Holds rendering.now.to.name.now (whole_of rendering.now engine.old.graph file) (F.held folder.new))) }
+    ensures unread { result ≡ Fails Fault.Read → (k : ℕ) × (k < all_frames rendering.now.from) × HeldBytes rendering.now.from.name.now (F.held folder.old)
+        (λ file. Stands engine.new (first_frames rendering.now.from file k) × Holds rendering.now.to.name.now (part_of rendering.now engine.old.graph file k) (F.held folder.new)) }
+    ensures read_failed { result ≡ Fails Fault.Read → Rose (F.read_faults folder.old) (F.read_faults folder.new) }
+    ensures broken { result ≡ Fails Fault.Write → HeldBytes rendering.now.from.name.now (F.held folder.old)
+        (λ file. IsPart rendering.now.to.name.now (whole_of rendering.now engine.old.graph file) (F.held folder.old) (F.held folder.new)) }
+    ensures write_failed { result ≡ Fails Fault.Write → Rose (F.write_faults folder.old) (F.write_faults folder.new) }
+    ensures reads { F.read_faults folder.old ≤ F.read_faults folder.new }
     ensures writes { F.write_faults folder.old ≤ F.write_faults folder.new }
 {
-    folder.create(name)?;
-    folder.append(name, &file.head)?;
-    append_frames(folder, name, file)?;
-    append_pad(folder, name, file.bytes.len())
+    let Rendering {
+        from,
+        to,
+        head,
+        data_bytes,
+    } = rendering;
+    match begin(folder, to.name, head) {
+        Ok(()) => {}
+        Err(Failed) => return Err(StreamFault::Write),
+    }
+    match stream(rt, folder, from, to, lengths, engine, room) {
+        Ok(()) => {}
+        Err(fault) => return Err(fault),
+    }
+    match append_pad(folder, to.name, *data_bytes) {
+        Ok(()) => Ok(()),
+        Err(Failed) => Err(StreamFault::Write),
+    }
 }

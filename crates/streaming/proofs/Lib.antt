@@ -1,0 +1,5 @@
+pub mod PartLaws
+pub mod StreamLaws
+pub mod AnswerLaws
+pub mod TakeFacts
+pub mod LoopFacts
