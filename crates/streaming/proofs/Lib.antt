@@ -3,3 +3,4 @@ pub mod StreamLaws
 pub mod AnswerLaws
 pub mod TakeFacts
 pub mod LoopFacts
+pub mod WholeFacts

@@ -1,10 +1,10 @@
 //! Frames in memory.
 
-ghost use Rattle.std.specs.Prelude.{◌≡◌, ◌≤◌, ◌<◌, ◌+◌, ◌*◌, ◌^◌, ℕ, length};
+ghost use Rattle.std.specs.Prelude.{◌≡◌, ◌≤◌, ◌<◌, ◌+◌, ◌*◌, ◌^◌, length};
 ghost use Rattle.graph_model.specs.Bounds.{AreUpTo};
+ghost use Rattle.graph_model.specs.Graphs.{in_channels, out_channels};
 ghost use Rattle.graph_model.specs.Sound.{IsSound};
 ghost use Rattle.engine_model.specs.Cuttings.{HasRendered};
-ghost use Rattle.engine_model.specs.Engines.{ins, outs};
 
 use engine::Engine;
 use fork_join::Open;
@@ -17,23 +17,25 @@ pub fn render_whole<T: Threads + Sync>(
     engine: &mut Engine,
     block: usize,
     frames: usize,
+    ins: usize,
+    outs: usize,
     input: &[i64],
     output: &mut [i64],
 )
     requires sound { IsSound engine.old.graph }
     requires some { 1 ≤ block }
     requires most { block ≤ engine.old.block }
-    requires comes { length input.now ≡ frames * ins engine.old }
-    requires goes { length output.old ≡ frames * outs engine.old }
+    requires ins { ins ≡ in_channels engine.old.graph }
+    requires outs { outs ≡ out_channels engine.old.graph }
+    requires comes { length input.now ≡ frames * ins }
+    requires goes { length output.old ≡ frames * outs }
     requires small { AreUpTo (2 ^ 31) input.now }
     requires count { engine.old.frames + frames < 2 ^ 63 }
     ensures { HasRendered engine.old input.now output.new engine.new }
 {
-    let ins = input.len() / frames.max(1);
-    let outs = output.len() / frames.max(1);
     let mut done = 0;
     while done < frames {
-        let end = frames.min(done + block);
+        let end = done + block.min(frames - done);
         let came = &input[done * ins..end * ins];
         let went = &mut output[done * outs..end * outs];
         engine.render(rt, &Open, came, went);
