@@ -5,8 +5,8 @@ ghost use Rattle.gh_outside.specs.Causes.{HasCause};
 ghost use Rattle.gh_outside.specs.Holdings.{GainsAll, GainsPrefix};
 
 use crate::counts::count_fault;
-use crate::disk::write_whole;
 use crate::folder::Failed;
+use crate::tries::write_whole;
 use std::io::Write;
 use std::marker::Model;
 
