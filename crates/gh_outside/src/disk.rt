@@ -180,6 +180,7 @@ fn is_one_file(one: &Metadata, other: &Metadata) -> bool {
 #[cfg(test)]
 mod tests {
     use super::*;
+    use std::os::unix::fs::symlink;
     use std::test::Fail;
 
     #[test]
@@ -194,16 +195,185 @@ mod tests {
         assert_eq!(rt; folder.read_exact_at(name, 2, &mut read), Ok(()));
         assert_eq!(rt; read, *b"cde");
         assert_eq!(rt; (folder.read_faults, folder.write_faults), (0, 0));
-
-        assert_eq!(rt;
-            folder.read_exact_at(name, 4, &mut read),
-            Err(Failed),
-            "past the end"
-        );
         fs::remove_file(&rt, name)?;
-        assert_eq!(rt; folder.length(name), Err(Failed), "no such file");
-        assert_eq!(rt; folder.append(name, b"abc"), Err(Failed), "no such file");
+        Ok(())
+    }
+
+    #[test]
+    fn what_is_not_there_is_a_fault(rt: HostRuntime) {
+        let name = "never_written_by_disk_folder";
+        let mut folder = DiskFolder::new(&rt);
+        assert_eq!(rt; folder.length(name), Err(Failed));
+        assert_eq!(rt; folder.read_exact_at(name, 0, &mut [0u8; 1]), Err(Failed));
+        assert_eq!(rt; folder.append(name, b"abc"), Err(Failed));
         assert_eq!(rt; (folder.read_faults, folder.write_faults), (2, 1));
+    }
+
+    /// Makes a name hold the bytes.
+    fn write<H: Files>(
+        folder: &mut DiskFolder<'_, H>,
+        name: &str,
+        bytes: &[u8],
+    ) -> Result<(), Failed> {
+        folder.create(name)?;
+        folder.append(name, bytes)
+    }
+
+    /// The two bytes from the offset on.
+    fn two<H: Files>(
+        folder: &mut DiskFolder<'_, H>,
+        name: &str,
+        from: u64,
+    ) -> Result<[u8; 2], Failed> {
+        let mut read = [0u8; 2];
+        folder.read_exact_at(name, from, &mut read)?;
+        Ok(read)
+    }
+
+    #[test]
+    fn reads_go_from_name_to_name(rt: HostRuntime) -> Result<(), Fail> {
+        let mut folder = DiskFolder::new(&rt);
+        assert_eq!(rt; write(&mut folder, "first_of_two", b"abcd"), Ok(()));
+        assert_eq!(rt; write(&mut folder, "second_of_two", b"efgh"), Ok(()));
+        assert_eq!(rt; two(&mut folder, "first_of_two", 2), Ok(*b"cd"));
+        assert_eq!(rt; two(&mut folder, "first_of_two", 0), Ok(*b"ab"));
+        assert_eq!(rt; two(&mut folder, "second_of_two", 1), Ok(*b"fg"));
+        assert_eq!(rt; folder.length("first_of_two"), Ok(4));
+        assert_eq!(rt; two(&mut folder, "first_of_two", 1), Ok(*b"bc"));
+        fs::remove_file(&rt, "first_of_two")?;
+        fs::remove_file(&rt, "second_of_two")?;
+        Ok(())
+    }
+
+    #[test]
+    fn a_file_stays_open_until_another_is_read(rt: HostRuntime) -> Result<(), Fail> {
+        let mut folder = DiskFolder::new(&rt);
+        assert_eq!(rt; write(&mut folder, "read_and_removed", b"abcd"), Ok(()));
+        assert_eq!(rt; two(&mut folder, "read_and_removed", 0), Ok(*b"ab"));
+        fs::remove_file(&rt, "read_and_removed")?;
+        assert_eq!(rt; folder.append("read_and_removed", b"ef"), Ok(()));
+        assert_eq!(rt; two(&mut folder, "read_and_removed", 4), Ok(*b"ef"));
+        assert_eq!(rt; folder.length("read_and_removed"), Ok(6));
+        assert_eq!(rt; two(&mut folder, "another_name", 0), Err(Failed));
+        assert_eq!(rt; folder.length("read_and_removed"), Err(Failed));
+        Ok(())
+    }
+
+    #[test]
+    fn a_read_past_the_end_is_a_fault_and_the_next_one_is_right(
+        rt: HostRuntime,
+    ) -> Result<(), Fail> {
+        let mut folder = DiskFolder::new(&rt);
+        assert_eq!(rt; write(&mut folder, "short_of_a_byte", b"abc"), Ok(()));
+        assert_eq!(rt; two(&mut folder, "short_of_a_byte", 2), Err(Failed));
+        assert_eq!(rt; two(&mut folder, "short_of_a_byte", 1), Ok(*b"bc"));
+        assert_eq!(rt; folder.read_faults, 1);
+        fs::remove_file(&rt, "short_of_a_byte")?;
+        Ok(())
+    }
+
+    #[test]
+    fn appends_come_after_those_of_others(rt: HostRuntime) -> Result<(), Fail> {
+        let (mut one, mut other) = (DiskFolder::new(&rt), DiskFolder::new(&rt));
+        assert_eq!(rt; write(&mut one, "appended_by_two", b"ab"), Ok(()));
+        assert_eq!(rt; other.append("appended_by_two", b"cd"), Ok(()));
+        assert_eq!(rt; one.append("appended_by_two", b"ef"), Ok(()));
+        assert_eq!(rt; two(&mut one, "appended_by_two", 2), Ok(*b"cd"));
+        assert_eq!(rt; two(&mut one, "appended_by_two", 4), Ok(*b"ef"));
+        assert_eq!(rt; one.length("appended_by_two"), Ok(6));
+        fs::remove_file(&rt, "appended_by_two")?;
+        Ok(())
+    }
+
+    #[test]
+    fn appends_go_from_name_to_name(rt: HostRuntime) -> Result<(), Fail> {
+        let mut folder = DiskFolder::new(&rt);
+        assert_eq!(rt; write(&mut folder, "one_appended", b"a"), Ok(()));
+        assert_eq!(rt; write(&mut folder, "other_appended", b"c"), Ok(()));
+        assert_eq!(rt; folder.append("one_appended", b"b"), Ok(()));
+        assert_eq!(rt; folder.append("other_appended", b"d"), Ok(()));
+        assert_eq!(rt; two(&mut folder, "one_appended", 0), Ok(*b"ab"));
+        assert_eq!(rt; two(&mut folder, "other_appended", 0), Ok(*b"cd"));
+        fs::remove_file(&rt, "one_appended")?;
+        fs::remove_file(&rt, "other_appended")?;
+        Ok(())
+    }
+
+    #[test]
+    fn the_name_that_was_read_is_made_anew(rt: HostRuntime) -> Result<(), Fail> {
+        let mut folder = DiskFolder::new(&rt);
+        assert_eq!(rt; write(&mut folder, "read_and_made_anew", b"abcdef"), Ok(()));
+        assert_eq!(rt; two(&mut folder, "read_and_made_anew", 0), Ok(*b"ab"));
+        assert_eq!(rt; write(&mut folder, "read_and_made_anew", b"ghi"), Ok(()));
+        assert_eq!(rt; folder.length("read_and_made_anew"), Ok(3));
+        assert_eq!(rt; two(&mut folder, "read_and_made_anew", 1), Ok(*b"hi"));
+        fs::remove_file(&rt, "read_and_made_anew")?;
+        Ok(())
+    }
+
+    /// What creating the other name gives after the name was read, and how many writes failed.
+    fn create_beside<H: Files>(rt: &H, name: &str, other: &str) -> (Result<(), Failed>, u64) {
+        let mut folder = DiskFolder::new(rt);
+        let _ = two(&mut folder, name, 0);
+        let created = folder.create(other);
+        (created, folder.write_faults)
+    }
+
+    #[test]
+    fn a_path_of_the_file_that_was_read_is_refused(rt: HostRuntime) -> Result<(), Fail> {
+        fs::write(&rt, "read_by_its_name", b"abc")?;
+        assert_eq!(rt;
+            create_beside(&rt, "read_by_its_name", "./read_by_its_name"),
+            (Err(Failed), 1)
+        );
+        assert_eq!(rt;
+            fs::read(&rt, "read_by_its_name")?.as_slice(),
+            b"abc".as_slice()
+        );
+        fs::remove_file(&rt, "read_by_its_name")?;
+        Ok(())
+    }
+
+    #[test]
+    fn a_hard_link_to_the_file_that_was_read_is_refused(rt: HostRuntime) -> Result<(), Fail> {
+        fs::write(&rt, "has_a_hard_link", b"abc")?;
+        fs::hard_link(&rt, "has_a_hard_link", "hard_link")?;
+        assert_eq!(rt;
+            create_beside(&rt, "has_a_hard_link", "hard_link"),
+            (Err(Failed), 1)
+        );
+        assert_eq!(rt;
+            fs::read(&rt, "has_a_hard_link")?.as_slice(),
+            b"abc".as_slice()
+        );
+        fs::remove_file(&rt, "hard_link")?;
+        fs::remove_file(&rt, "has_a_hard_link")?;
+        Ok(())
+    }
+
+    #[test]
+    fn a_symbolic_link_to_the_file_that_was_read_is_refused(rt: HostRuntime) -> Result<(), Fail> {
+        fs::write(&rt, "has_a_link", b"abc")?;
+        symlink(&rt, "has_a_link", "link")?;
+        assert_eq!(rt; create_beside(&rt, "has_a_link", "link"), (Err(Failed), 1));
+        assert_eq!(rt; fs::read(&rt, "has_a_link")?.as_slice(), b"abc".as_slice());
+        fs::remove_file(&rt, "link")?;
+        fs::remove_file(&rt, "has_a_link")?;
+        Ok(())
+    }
+
+    #[test]
+    fn the_very_name_that_was_read_is_allowed(rt: HostRuntime) -> Result<(), Fail> {
+        fs::write(&rt, "read_and_created", b"abc")?;
+        assert_eq!(rt;
+            create_beside(&rt, "read_and_created", "read_and_created"),
+            (Ok(()), 0)
+        );
+        assert_eq!(rt;
+            fs::read(&rt, "read_and_created")?.as_slice(),
+            b"".as_slice()
+        );
+        fs::remove_file(&rt, "read_and_created")?;
         Ok(())
     }
 }
