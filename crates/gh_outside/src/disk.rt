@@ -320,45 +320,22 @@ mod tests {
     }
 
     #[test]
-    fn a_path_of_the_file_that_was_read_is_refused(rt: HostRuntime) -> Result<(), Fail> {
-        fs::write(&rt, "read_by_its_name", b"abc")?;
-        assert_eq!(rt;
-            create_beside(&rt, "read_by_its_name", "./read_by_its_name"),
-            (Err(Failed), 1)
-        );
-        assert_eq!(rt;
-            fs::read(&rt, "read_by_its_name")?.as_slice(),
-            b"abc".as_slice()
-        );
-        fs::remove_file(&rt, "read_by_its_name")?;
-        Ok(())
-    }
-
-    #[test]
-    fn a_hard_link_to_the_file_that_was_read_is_refused(rt: HostRuntime) -> Result<(), Fail> {
-        fs::write(&rt, "has_a_hard_link", b"abc")?;
-        fs::hard_link(&rt, "has_a_hard_link", "hard_link")?;
-        assert_eq!(rt;
-            create_beside(&rt, "has_a_hard_link", "hard_link"),
-            (Err(Failed), 1)
-        );
-        assert_eq!(rt;
-            fs::read(&rt, "has_a_hard_link")?.as_slice(),
-            b"abc".as_slice()
-        );
+    fn another_name_of_the_file_that_was_read_is_refused(rt: HostRuntime) -> Result<(), Fail> {
+        let name = "read_by_its_name";
+        fs::write(&rt, name, b"abc")?;
+        fs::hard_link(&rt, name, "hard_link")?;
+        symlink(&rt, name, "symbolic_link")?;
+        for other in ["./read_by_its_name", "hard_link", "symbolic_link"] {
+            assert_eq!(rt;
+                create_beside(&rt, name, other),
+                (Err(Failed), 1),
+                "{other}"
+            );
+        }
+        assert_eq!(rt; fs::read(&rt, name)?.as_slice(), b"abc".as_slice());
+        fs::remove_file(&rt, "symbolic_link")?;
         fs::remove_file(&rt, "hard_link")?;
-        fs::remove_file(&rt, "has_a_hard_link")?;
-        Ok(())
-    }
-
-    #[test]
-    fn a_symbolic_link_to_the_file_that_was_read_is_refused(rt: HostRuntime) -> Result<(), Fail> {
-        fs::write(&rt, "has_a_link", b"abc")?;
-        symlink(&rt, "has_a_link", "link")?;
-        assert_eq!(rt; create_beside(&rt, "has_a_link", "link"), (Err(Failed), 1));
-        assert_eq!(rt; fs::read(&rt, "has_a_link")?.as_slice(), b"abc".as_slice());
-        fs::remove_file(&rt, "link")?;
-        fs::remove_file(&rt, "has_a_link")?;
+        fs::remove_file(&rt, name)?;
         Ok(())
     }
 
