@@ -17,7 +17,7 @@ use std::rt::Files;
 /// It keeps the file that it read last open, and the one that it created or appended to last, so
 /// that calls for one name after the other do not open it anew. A file that is kept open is the one
 /// that its name had when it was opened, also where others have moved it since. A call that fails
-/// closes the file that it worked on.
+/// closes the file that it worked on. Where the system interrupts a call, it is made again.
 ///
 /// A name that is another name of the file that is open for reading (`./a` beside `a`, or a link)
 /// is not created: `create` fails, and the file stays as it was. Its own name is created anew.

@@ -65,7 +65,8 @@ impl<W: Write> Sink for WriterSink<W> {
 
     ghost faults = { λ s. s };
 
-    /// Writes all the bytes and flushes the writer. A writer that takes no more bytes is a fault.
+    /// Writes all the bytes and flushes the writer. A call that is interrupted is made again, and a
+    /// writer that takes no more bytes is a fault.
     fn put(&mut self, piece: &[u8]) -> Result<(), Failed> {
         match write_whole(&mut self.writer, piece) {
             Ok(()) => Ok(()),
