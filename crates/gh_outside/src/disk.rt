@@ -4,18 +4,31 @@ ghost use Rattle.std.specs.Prelude.{◌≡◌, None};
 
 use crate::counts::count_fault;
 use crate::folder::{Failed, Folder};
-use std::fs::{self, OpenOptions};
-use std::io::{self, ErrorKind, Read, Seek, SeekFrom, Write};
+use crate::kept::Kept;
+use crate::tries::{read_whole, write_whole};
+use std::fs::{self, Metadata, OpenFile, OpenOptions};
+use std::io::{self, ErrorKind, Seek, SeekFrom};
 use std::marker::Model;
+use std::os::unix::fs::MetadataExt;
 use std::rt::Files;
 
 /// The files of the system, by their paths. It does not tell what they hold.
+///
+/// It keeps the file that it read last open, and the one that it created or appended to last, so
+/// that calls for one name after the other do not open it anew. A file that is kept open is the one
+/// that its name had when it was opened, also where others have moved it since. A call that fails
+/// closes the file that it worked on. Where the system interrupts a call, it is made again.
+///
+/// A name that is another name of the file that is open for reading (`./a` beside `a`, or a link)
+/// is not created: `create` fails, and the file stays as it was. Its own name is created anew.
 ///
 /// It is the trusted edge: no clause says which bytes reach a file or come from it. What is proved
 /// of it is that each failure raises its count.
 #[derive(Drop)]
 pub struct DiskFolder<'a, H: Files> {
     rt: &'a H,
+    reading: Kept<H::File>,
+    appending: Kept<H::File>,
     read_faults: u64,
     write_faults: u64,
 }
@@ -38,6 +51,8 @@ impl<'a, H: Files> DiskFolder<'a, H> {
     {
         DiskFolder {
             rt,
+            reading: Kept::new(),
+            appending: Kept::new(),
             read_faults: 0,
             write_faults: 0,
         }
@@ -52,71 +67,120 @@ impl<'a, H: Files> Folder for DiskFolder<'a, H> {
     ghost write_faults = { λ d. d.write_faults };
 
     fn length(&mut self, name: &str) -> Result<u64, Failed> {
-        match fs::metadata(self.rt, name) {
-            Ok(metadata) => Ok(metadata.len()),
-            Err(_) => Err(count_fault(&mut self.read_faults)),
+        match length_of(self.rt, &self.reading, name) {
+            Ok(length) => Ok(length),
+            Err(_) => {
+                self.reading.close_named(name);
+                Err(count_fault(&mut self.read_faults))
+            }
         }
     }
 
     fn read_exact_at(&mut self, name: &str, from: u64, into: &mut [u8]) -> Result<(), Failed> {
-        match read_at(self.rt, name, from, into) {
+        match read_at(self.rt, &mut self.reading, name, from, into) {
             Ok(()) => Ok(()),
             Err(_) => Err(count_fault(&mut self.read_faults)),
         }
     }
 
     fn create(&mut self, name: &str) -> Result<(), Failed> {
-        match fs::create(self.rt, name) {
-            Ok(_file) => Ok(()),
+        match make(self.rt, &mut self.reading, &mut self.appending, name) {
+            Ok(()) => Ok(()),
             Err(_) => Err(count_fault(&mut self.write_faults)),
         }
     }
 
     fn append(&mut self, name: &str, bytes: &[u8]) -> Result<(), Failed> {
-        match append_to(self.rt, name, bytes) {
+        match append_to(self.rt, &mut self.appending, name, bytes) {
             Ok(()) => Ok(()),
             Err(_) => Err(count_fault(&mut self.write_faults)),
         }
     }
 }
 
+/// How many bytes the file has that is open under the name, or else the one that is there.
+fn length_of<H: Files>(rt: &H, reading: &Kept<H::File>, name: &str) -> io::Result<u64> {
+    let found = match reading.named(name) {
+        Some(file) => file.metadata()?,
+        None => fs::metadata(rt, name)?,
+    };
+    Ok(found.len())
+}
+
 /// Reads from the offset on until `into` is full. A file that ends before that is an error.
-fn read_at<H: Files>(rt: &H, name: &str, from: u64, into: &mut [u8]) -> io::Result<()> {
-    let mut file = fs::open(rt, name)?;
+fn read_at<H: Files>(
+    rt: &H,
+    reading: &mut Kept<H::File>,
+    name: &str,
+    from: u64,
+    into: &mut [u8],
+) -> io::Result<()> {
+    let mut file = match reading.take(name) {
+        Some(file) => file,
+        None => fs::open(rt, name)?,
+    };
     file.seek(SeekFrom::Start(from))?;
-    let mut filled = 0;
-    while filled < into.len() {
-        let count = file.read(&mut into[filled..])?;
-        if count == 0 {
-            return Err(io::Error::from(ErrorKind::UnexpectedEof));
-        }
-        filled += count;
-    }
+    read_whole(&mut file, into)?;
+    reading.keep(name, file);
     Ok(())
 }
 
-/// Adds the bytes at the end of a file that is there.
-fn append_to<H: Files>(rt: &H, name: &str, bytes: &[u8]) -> io::Result<()> {
-    let mut file = OpenOptions::new().append(true).open(rt, name)?;
-    write_whole(&mut file, bytes)
+/// Makes the file hold no bytes, and keeps it open.
+///
+/// It is emptied only when it is known that it is not the one that is open for reading.
+fn make<H: Files>(
+    rt: &H,
+    reading: &mut Kept<H::File>,
+    appending: &mut Kept<H::File>,
+    name: &str,
+) -> io::Result<()> {
+    appending.close();
+    reading.close_named(name);
+    let file = OpenOptions::new().append(true).create(true).open(rt, name)?;
+    let made = file.metadata()?;
+    if is_open(reading, &made)? {
+        return Err(io::Error::from(ErrorKind::InvalidInput));
+    }
+    if made.len() > 0 {
+        file.set_len(0)?;
+    }
+    appending.keep(name, file);
+    Ok(())
 }
 
-/// Writes all the bytes and flushes. A writer that takes no more bytes is an error.
-pub(crate) fn write_whole<W: Write>(writer: &mut W, bytes: &[u8]) -> io::Result<()> {
-    let mut written = 0;
-    while written < bytes.len() {
-        let count = writer.write(&bytes[written..])?;
-        if count == 0 {
-            return Err(io::Error::from(ErrorKind::WriteZero));
-        }
-        written += count;
+/// Adds the bytes at the end of a file that is there, also where others have added to it.
+fn append_to<H: Files>(
+    rt: &H,
+    appending: &mut Kept<H::File>,
+    name: &str,
+    bytes: &[u8],
+) -> io::Result<()> {
+    let mut file = match appending.take(name) {
+        Some(file) => file,
+        None => OpenOptions::new().append(true).open(rt, name)?,
+    };
+    write_whole(&mut file, bytes)?;
+    appending.keep(name, file);
+    Ok(())
+}
+
+/// Whether the file that is kept open is the one that this tells of.
+fn is_open<F: OpenFile + Drop>(kept: &Kept<F>, other: &Metadata) -> io::Result<bool> {
+    match kept.any() {
+        None => Ok(false),
+        Some(file) => Ok(is_one_file(&file.metadata()?, other)),
     }
-    writer.flush()
+}
+
+/// Whether both tell of one file: one device, and one number on it. A number of 0 tells nothing.
+fn is_one_file(one: &Metadata, other: &Metadata) -> bool {
+    one.ino() != 0 && one.ino() == other.ino() && one.dev() == other.dev()
 }
 
 #[cfg(test)]
 mod tests {
     use super::*;
+    use std::os::unix::fs::symlink;
     use std::test::Fail;
 
     #[test]
@@ -131,16 +195,162 @@ mod tests {
         assert_eq!(rt; folder.read_exact_at(name, 2, &mut read), Ok(()));
         assert_eq!(rt; read, *b"cde");
         assert_eq!(rt; (folder.read_faults, folder.write_faults), (0, 0));
-
-        assert_eq!(rt;
-            folder.read_exact_at(name, 4, &mut read),
-            Err(Failed),
-            "past the end"
-        );
         fs::remove_file(&rt, name)?;
-        assert_eq!(rt; folder.length(name), Err(Failed), "no such file");
-        assert_eq!(rt; folder.append(name, b"abc"), Err(Failed), "no such file");
+        Ok(())
+    }
+
+    #[test]
+    fn what_is_not_there_is_a_fault(rt: HostRuntime) {
+        let name = "never_written_by_disk_folder";
+        let mut folder = DiskFolder::new(&rt);
+        assert_eq!(rt; folder.length(name), Err(Failed));
+        assert_eq!(rt; folder.read_exact_at(name, 0, &mut [0u8; 1]), Err(Failed));
+        assert_eq!(rt; folder.append(name, b"abc"), Err(Failed));
         assert_eq!(rt; (folder.read_faults, folder.write_faults), (2, 1));
+    }
+
+    /// Makes a name hold the bytes.
+    fn write<H: Files>(
+        folder: &mut DiskFolder<'_, H>,
+        name: &str,
+        bytes: &[u8],
+    ) -> Result<(), Failed> {
+        folder.create(name)?;
+        folder.append(name, bytes)
+    }
+
+    /// The two bytes from the offset on.
+    fn two<H: Files>(
+        folder: &mut DiskFolder<'_, H>,
+        name: &str,
+        from: u64,
+    ) -> Result<[u8; 2], Failed> {
+        let mut read = [0u8; 2];
+        folder.read_exact_at(name, from, &mut read)?;
+        Ok(read)
+    }
+
+    #[test]
+    fn reads_go_from_name_to_name(rt: HostRuntime) -> Result<(), Fail> {
+        let mut folder = DiskFolder::new(&rt);
+        assert_eq!(rt; write(&mut folder, "first_of_two", b"abcd"), Ok(()));
+        assert_eq!(rt; write(&mut folder, "second_of_two", b"efgh"), Ok(()));
+        assert_eq!(rt; two(&mut folder, "first_of_two", 2), Ok(*b"cd"));
+        assert_eq!(rt; two(&mut folder, "first_of_two", 0), Ok(*b"ab"));
+        assert_eq!(rt; two(&mut folder, "second_of_two", 1), Ok(*b"fg"));
+        assert_eq!(rt; folder.length("first_of_two"), Ok(4));
+        assert_eq!(rt; two(&mut folder, "first_of_two", 1), Ok(*b"bc"));
+        fs::remove_file(&rt, "first_of_two")?;
+        fs::remove_file(&rt, "second_of_two")?;
+        Ok(())
+    }
+
+    #[test]
+    fn a_file_stays_open_until_another_is_read(rt: HostRuntime) -> Result<(), Fail> {
+        let mut folder = DiskFolder::new(&rt);
+        assert_eq!(rt; write(&mut folder, "read_and_removed", b"abcd"), Ok(()));
+        assert_eq!(rt; two(&mut folder, "read_and_removed", 0), Ok(*b"ab"));
+        fs::remove_file(&rt, "read_and_removed")?;
+        assert_eq!(rt; folder.append("read_and_removed", b"ef"), Ok(()));
+        assert_eq!(rt; two(&mut folder, "read_and_removed", 4), Ok(*b"ef"));
+        assert_eq!(rt; folder.length("read_and_removed"), Ok(6));
+        assert_eq!(rt; two(&mut folder, "another_name", 0), Err(Failed));
+        assert_eq!(rt; folder.length("read_and_removed"), Err(Failed));
+        Ok(())
+    }
+
+    #[test]
+    fn a_read_past_the_end_is_a_fault_and_the_next_one_is_right(
+        rt: HostRuntime,
+    ) -> Result<(), Fail> {
+        let mut folder = DiskFolder::new(&rt);
+        assert_eq!(rt; write(&mut folder, "short_of_a_byte", b"abc"), Ok(()));
+        assert_eq!(rt; two(&mut folder, "short_of_a_byte", 2), Err(Failed));
+        assert_eq!(rt; two(&mut folder, "short_of_a_byte", 1), Ok(*b"bc"));
+        assert_eq!(rt; folder.read_faults, 1);
+        fs::remove_file(&rt, "short_of_a_byte")?;
+        Ok(())
+    }
+
+    #[test]
+    fn appends_come_after_those_of_others(rt: HostRuntime) -> Result<(), Fail> {
+        let (mut one, mut other) = (DiskFolder::new(&rt), DiskFolder::new(&rt));
+        assert_eq!(rt; write(&mut one, "appended_by_two", b"ab"), Ok(()));
+        assert_eq!(rt; other.append("appended_by_two", b"cd"), Ok(()));
+        assert_eq!(rt; one.append("appended_by_two", b"ef"), Ok(()));
+        assert_eq!(rt; two(&mut one, "appended_by_two", 2), Ok(*b"cd"));
+        assert_eq!(rt; two(&mut one, "appended_by_two", 4), Ok(*b"ef"));
+        assert_eq!(rt; one.length("appended_by_two"), Ok(6));
+        fs::remove_file(&rt, "appended_by_two")?;
+        Ok(())
+    }
+
+    #[test]
+    fn appends_go_from_name_to_name(rt: HostRuntime) -> Result<(), Fail> {
+        let mut folder = DiskFolder::new(&rt);
+        assert_eq!(rt; write(&mut folder, "one_appended", b"a"), Ok(()));
+        assert_eq!(rt; write(&mut folder, "other_appended", b"c"), Ok(()));
+        assert_eq!(rt; folder.append("one_appended", b"b"), Ok(()));
+        assert_eq!(rt; folder.append("other_appended", b"d"), Ok(()));
+        assert_eq!(rt; two(&mut folder, "one_appended", 0), Ok(*b"ab"));
+        assert_eq!(rt; two(&mut folder, "other_appended", 0), Ok(*b"cd"));
+        fs::remove_file(&rt, "one_appended")?;
+        fs::remove_file(&rt, "other_appended")?;
+        Ok(())
+    }
+
+    #[test]
+    fn the_name_that_was_read_is_made_anew(rt: HostRuntime) -> Result<(), Fail> {
+        let mut folder = DiskFolder::new(&rt);
+        assert_eq!(rt; write(&mut folder, "read_and_made_anew", b"abcdef"), Ok(()));
+        assert_eq!(rt; two(&mut folder, "read_and_made_anew", 0), Ok(*b"ab"));
+        assert_eq!(rt; write(&mut folder, "read_and_made_anew", b"ghi"), Ok(()));
+        assert_eq!(rt; folder.length("read_and_made_anew"), Ok(3));
+        assert_eq!(rt; two(&mut folder, "read_and_made_anew", 1), Ok(*b"hi"));
+        fs::remove_file(&rt, "read_and_made_anew")?;
+        Ok(())
+    }
+
+    /// What creating the other name gives after the name was read, and how many writes failed.
+    fn create_beside<H: Files>(rt: &H, name: &str, other: &str) -> (Result<(), Failed>, u64) {
+        let mut folder = DiskFolder::new(rt);
+        let _ = two(&mut folder, name, 0);
+        let created = folder.create(other);
+        (created, folder.write_faults)
+    }
+
+    #[test]
+    fn another_name_of_the_file_that_was_read_is_refused(rt: HostRuntime) -> Result<(), Fail> {
+        let name = "read_by_its_name";
+        fs::write(&rt, name, b"abc")?;
+        fs::hard_link(&rt, name, "hard_link")?;
+        symlink(&rt, name, "symbolic_link")?;
+        for other in ["./read_by_its_name", "hard_link", "symbolic_link"] {
+            assert_eq!(rt;
+                create_beside(&rt, name, other),
+                (Err(Failed), 1),
+                "{other}"
+            );
+        }
+        assert_eq!(rt; fs::read(&rt, name)?.as_slice(), b"abc".as_slice());
+        fs::remove_file(&rt, "symbolic_link")?;
+        fs::remove_file(&rt, "hard_link")?;
+        fs::remove_file(&rt, name)?;
+        Ok(())
+    }
+
+    #[test]
+    fn the_very_name_that_was_read_is_allowed(rt: HostRuntime) -> Result<(), Fail> {
+        fs::write(&rt, "read_and_created", b"abc")?;
+        assert_eq!(rt;
+            create_beside(&rt, "read_and_created", "read_and_created"),
+            (Ok(()), 0)
+        );
+        assert_eq!(rt;
+            fs::read(&rt, "read_and_created")?.as_slice(),
+            b"".as_slice()
+        );
+        fs::remove_file(&rt, "read_and_created")?;
         Ok(())
     }
 }

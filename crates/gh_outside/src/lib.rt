@@ -15,10 +15,12 @@
 mod counts;
 mod disk;
 mod folder;
+mod kept;
 mod memory;
 mod memory_sink;
 mod sink;
 mod stored;
+mod tries;
 
 pub use disk::DiskFolder;
 pub use folder::{Failed, Folder};

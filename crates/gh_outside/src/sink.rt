@@ -5,8 +5,8 @@ ghost use Rattle.gh_outside.specs.Causes.{HasCause};
 ghost use Rattle.gh_outside.specs.Holdings.{GainsAll, GainsPrefix};
 
 use crate::counts::count_fault;
-use crate::disk::write_whole;
 use crate::folder::Failed;
+use crate::tries::write_whole;
 use std::io::Write;
 use std::marker::Model;
 
@@ -65,7 +65,8 @@ impl<W: Write> Sink for WriterSink<W> {
 
     ghost faults = { λ s. s };
 
-    /// Writes all the bytes and flushes the writer. A writer that takes no more bytes is a fault.
+    /// Writes all the bytes and flushes the writer. A call that is interrupted is made again, and a
+    /// writer that takes no more bytes is a fault.
     fn put(&mut self, piece: &[u8]) -> Result<(), Failed> {
         match write_whole(&mut self.writer, piece) {
             Ok(()) => Ok(()),
