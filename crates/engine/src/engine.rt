@@ -11,11 +11,11 @@ ghost use Rattle.engine.specs.Working.{AreDelays, IsRendered, MayRender};
 use crate::made::{delays_of, job_place, pool_of};
 use crate::output::{begin_all, leave};
 use crate::shape::Shape;
-use crate::threads::asked;
+use crate::threads::{asked, at_first};
 use connections::Checked;
 use fork_join::Gate;
 use graph_model::Graph;
-use plan_jobs::{Jobs, is_some_shared, jobs_of, run_block};
+use plan_jobs::{Jobs, jobs_of, run_block};
 use plan_model::Plan;
 use players::{Player, Stage};
 use pool_waves::{Buffer, Job};
@@ -67,11 +67,6 @@ impl Engine {
     {
         let graph = checked.graph();
         let Jobs { jobs, ends, spares } = jobs_of(alloc, checked, plan)?;
-        let threads = if is_some_shared(spares.as_slice(), block as usize) {
-            None
-        } else {
-            Some(1)
-        };
         let output = checked.uid(checked.output());
         let shape = Shape {
             ins: checked.input_channels() as usize,
@@ -87,8 +82,8 @@ impl Engine {
             plan: plan.copy(alloc)?,
             block,
             frames: 0,
+            threads: at_first(&shape, block as usize),
             shape,
-            threads,
             jobs,
             pool,
             lines,
