@@ -27,6 +27,17 @@ pub fn noise(alloc: Global, count: usize) -> Result<Vec<i64>, AllocError>
     Ok(samples)
 }
 
+/// These samples.
+pub fn widened(alloc: Global, samples: &[i16]) -> Result<Vec<i64>, AllocError>
+    ensures { IfOk result (λ v. AreUpTo (2 ^ 31) v.items) }
+{
+    let mut list = Vec::new(alloc);
+    for sample in samples {
+        list.push(i64::from(*sample))?;
+    }
+    Ok(list)
+}
+
 /// The channels that come into a graph and go out of it.
 #[derive(Clone, Copy)]
 pub struct Widths {

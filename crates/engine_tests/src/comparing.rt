@@ -5,7 +5,7 @@ ghost use Rattle.graph_model.specs.Bounds.{AreUpTo};
 ghost use Rattle.graph_model.specs.Sound.{Fits};
 ghost use Rattle.plan_model.specs.Certified.{IsCertified};
 
-use crate::blocks::{noise, rendered};
+use crate::blocks::{noise, rendered, widened};
 use connections::{Checked, check};
 use graph_model::{Graph, List};
 use plan_compiler::compile;
@@ -23,11 +23,15 @@ const MIXED: [usize; 6] = [3, 64, 1, 65, 128, 200];
 fn cutting(alloc: Global, length: usize, frames: usize) -> Result<Vec<usize>, AllocError> {
     let mut cuts = Vec::new(alloc);
     let mut frame: usize = 0;
-    for mixed in MIXED.iter().cycle() {
+    for turn in 0..frames {
         if frame >= frames {
             break;
         }
-        let cut = if length > 0 { length } else { *mixed };
+        let cut = if length > 0 {
+            length
+        } else {
+            MIXED[turn % MIXED.len()]
+        };
         cuts.push(cut)?;
         frame = frame.saturating_add(cut);
     }
@@ -133,4 +137,33 @@ pub fn agrees<R: Abort + Threads + Sync>(
     let samples = noise(alloc, count)?;
     compare_both(rt, alloc, &checked, lengths, samples.as_slice())?;
     Ok(())
+}
+
+/// What an engine gives of these samples by the schedule of a mode.
+fn heard_by<R: Threads + Sync>(
+    rt: &R,
+    alloc: Global,
+    checked: &Checked,
+    mode: Mode,
+    cuts: &[usize],
+    samples: &[i16],
+) -> Result<Vec<i64>, AllocError> {
+    let plan = compile(alloc, checked, mode)?;
+    let samples = widened(alloc, samples)?;
+    rendered(rt, alloc, checked, &plan, cuts, samples.as_slice())
+}
+
+/// What a graph's engine gives of these samples in blocks of these lengths.
+pub fn heard<R: Threads + Sync>(
+    rt: &R,
+    alloc: Global,
+    graph: Graph,
+    mode: Mode,
+    cuts: &[usize],
+    samples: &[i16],
+) -> Result<Vec<i64>, Fail>
+    requires { Fits graph }
+{
+    let checked = check(alloc, graph)?;
+    Ok(heard_by(rt, alloc, &checked, mode, cuts, samples)?)
 }

@@ -3,8 +3,9 @@
 ghost use Rattle.std.specs.Prelude.{IfOk};
 ghost use Rattle.graph_model.specs.Sound.{Fits};
 
-use crate::comparing::agrees;
+use crate::comparing::{agrees, heard};
 use graph_model::{Graph, Kind};
+use plan_model::Mode;
 use std::alloc::{AllocError, Global};
 use std::test::Fail;
 use test_graphs::{
@@ -90,4 +91,22 @@ fn limiters_in_a_row(rt: HostRuntime) -> Result<(), Fail> {
         lookahead: 70,
     };
     agrees(&rt, alloc, in_a_row(alloc, 3, &limiter)?, 600, &LENGTHS)
+}
+
+#[test]
+fn a_pair_comes_out_swapped(rt: HostRuntime) -> Result<(), Fail> {
+    let alloc = rt.alloc();
+    let heard = heard(&rt, alloc, swap(alloc)?, Mode::OneByOne, &[1], &[1, 2])?;
+    assert_eq!(rt; heard.as_slice(), [2, 1].as_slice());
+    Ok(())
+}
+
+/// Each sample once, twice, and less its half.
+#[test]
+fn three_frames_by_ones(rt: HostRuntime) -> Result<(), Fail> {
+    let alloc = rt.alloc();
+    let graph = three_gains(alloc)?;
+    let heard = heard(&rt, alloc, graph, Mode::Waves, &[1, 1, 1], &[2, 4, -6])?;
+    assert_eq!(rt; heard.as_slice(), [5, 10, -15].as_slice());
+    Ok(())
 }
