@@ -11,6 +11,7 @@ ghost use Rattle.engine.specs.Working.{AreDelays, IsRendered, MayRender};
 use crate::made::{delays_of, job_place, pool_of};
 use crate::output::{begin_all, leave};
 use crate::shape::Shape;
+use crate::threads::{asked, at_first};
 use connections::Checked;
 use fork_join::Gate;
 use graph_model::Graph;
@@ -31,6 +32,7 @@ pub struct Engine {
     block: u32,
     frames: u64,
     shape: Shape,
+    threads: Option<usize>,
     jobs: Vec<Job<Player>>,
     pool: Vec<Buffer>,
     lines: Vec<u64>,
@@ -64,13 +66,14 @@ impl Engine {
         ensures stands { IfOk result (λ e. Stands e []) }
     {
         let graph = checked.graph();
-        let Jobs { jobs, ends } = jobs_of(alloc, checked, plan)?;
+        let Jobs { jobs, ends, spares } = jobs_of(alloc, checked, plan)?;
         let output = checked.uid(checked.output());
         let shape = Shape {
             ins: checked.input_channels() as usize,
             outs: checked.output_channels() as usize,
             exit: job_place(jobs.as_slice(), output).unwrap(),
             ends,
+            spares,
         };
         let pool = pool_of(alloc, plan.channels as usize, block as usize)?;
         let lines = delays_of(alloc, plan)?;
@@ -79,6 +82,7 @@ impl Engine {
             plan: plan.copy(alloc)?,
             block,
             frames: 0,
+            threads: at_first(&shape, block as usize),
             shape,
             jobs,
             pool,
@@ -102,8 +106,10 @@ impl Engine {
         ensures orders { (h : History) → Stands self.old h → AnyOrder self.old self.new input.now output.new h }
         ensures count { self.new.frames ≡ self.old.frames + length (frames_of (ins self.old) input.now) }
     {
+        let threads = asked(rt, &mut self.threads);
         let count = render_block(
             rt,
+            threads,
             gate,
             &self.shape,
             self.frames,
@@ -141,6 +147,7 @@ impl Engine {
 /// Takes a block through the jobs, and says how many frames it had.
 fn render_block<T: Threads + Sync, G: Gate + Sync>(
     rt: &T,
+    threads: usize,
     gate: &G,
     shape: &Shape,
     frames: u64,
@@ -159,7 +166,17 @@ fn render_block<T: Threads + Sync, G: Gate + Sync>(
         channels: shape.ins,
     };
     begin_all(jobs, frames);
-    run_block(rt, gate, &stage, jobs, shape.ends.as_slice(), pool, count);
+    run_block(
+        rt,
+        threads,
+        gate,
+        &stage,
+        jobs,
+        shape.ends.as_slice(),
+        shape.spares.as_slice(),
+        pool,
+        count,
+    );
     let Stage {
         input: _,
         channels: _,

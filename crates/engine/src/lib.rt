@@ -18,5 +18,6 @@ mod engine;
 mod made;
 mod output;
 mod shape;
+mod threads;
 
 pub use engine::Engine;

@@ -11,7 +11,7 @@ mod gate;
 mod work;
 
 pub use gate::{Gate, Open};
-pub use work::{Work, run};
+pub use work::{Work, processors, run};
 
 #[cfg(test)]
 mod tests;

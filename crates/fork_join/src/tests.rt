@@ -70,7 +70,9 @@ fn waves_in_a_plain_loop(rt: HostRuntime) {
         first: Place::new(),
         second: Place::new(),
     };
-    run(&rt, &meeting, &mut [Guest { node: 0 }, Guest { node: 1 }]);
+    let threads = processors(&rt);
+    let mut guests = [Guest { node: 0 }, Guest { node: 1 }];
+    run(&rt, threads, &meeting, &mut guests);
     assert!(rt; meeting.first.met.load(Ordering::SeqCst));
     assert!(rt; meeting.second.met.load(Ordering::SeqCst));
 }
@@ -94,8 +96,8 @@ impl Work<u32> for Sum {
 #[test]
 fn more_jobs_than_threads_and_none(rt: HostRuntime) {
     let mut jobs = [Sum { total: 0 }; 100];
-    run(&rt, &7, &mut jobs);
+    run(&rt, 3, &7, &mut jobs);
     assert!(rt; jobs.iter().all(|job| job.total == 7));
     let mut none: [Sum; 0] = [];
-    run(&rt, &7, &mut none);
+    run(&rt, 3, &7, &mut none);
 }

@@ -18,30 +18,27 @@ pub trait Work<S> {
         ensures { done shared.now self.old self.new };
 }
 
-/// Runs every job once. It uses no more threads than there are jobs, and no more than processors from three jobs on. It
-/// takes no memory of its own; where the system can make no thread, jobs run in turn.
-pub fn run<T: Threads + Sync, S: Sync, J: Work<S> + Send>(rt: &T, shared: &S, jobs: &mut [J])
+/// Runs every job once, in at most so many threads and no more than there are jobs. This thread is one of them: where
+/// `threads` is less than two, or there is one job, none is started. It takes no memory of its own; where the system can
+/// make no thread, jobs run in turn.
+pub fn run<T: Threads + Sync, S: Sync, J: Work<S> + Send>(
+    rt: &T,
+    threads: usize,
+    shared: &S,
+    jobs: &mut [J],
+)
     requires ready { All (J.ready shared.now) jobs.old }
     ensures len { length jobs.new ≡ length jobs.old }
     ensures done { (i : ℕ) (d : _) → i < length jobs.old → J.done shared.now (slice_index_or jobs.old i d) (slice_index_or jobs.new i d) }
 {
-    if jobs.is_empty() {
-        return;
-    }
-    let threads = threads_for(rt, jobs.len());
-    thread::for_each_mut(rt, jobs, threads, &|_, job| job.work(shared));
+    thread::for_each_mut(rt, jobs, threads.max(1), &|_, job| job.work(shared));
 }
 
-/// A thread for each of two jobs, on any machine. For more of them it asks for the number of processors, which reads a
-/// file and costs less than a thread.
-fn threads_for(rt: &impl Threads, jobs: usize) -> usize
-    requires { 0 < jobs }
-    ensures some { 0 < result }
-    ensures few { result ≤ jobs }
+/// How many threads serve: as many as there are processors, and two on any machine. It reads files, which costs about as
+/// much as to start a thread, so that a caller asks once.
+pub fn processors(rt: &impl Threads) -> usize
+    ensures { 2 ≤ result }
 {
-    if jobs <= 2 {
-        return jobs;
-    }
     let processors = thread::available_parallelism(rt).map_or(2, NonZeroUsize::get);
-    jobs.min(processors.max(2))
+    processors.max(2)
 }

@@ -12,6 +12,7 @@ ghost use Rattle.plan_jobs.specs.Jobs.{AreNewJobs, IsNewJob, core_home};
 
 use crate::making::player_of;
 use crate::places::homes_of;
+use crate::sharing::spares_of;
 use connections::Checked;
 use graph_model::Uid;
 use plan_model::{Plan, Wave};
@@ -19,11 +20,13 @@ use players::Player;
 use pool_waves::{Buffer, Desk, Job};
 use std::alloc::{AllocError, Global};
 
-/// A job for each live node in the order of the waves, and where in this list each wave ends.
+/// A job for each live node in the order of the waves, where in this list each wave ends, and how much work of each wave
+/// other threads can take off one.
 #[derive(Drop)]
 pub struct Jobs {
     pub jobs: Vec<Job<Player>>,
     pub ends: Vec<usize>,
+    pub spares: Vec<u64>,
 }
 
 /// Empty places for the buffers of so many values.
@@ -103,12 +106,13 @@ pub fn jobs_of(alloc: Global, checked: &Checked, plan: &Plan) -> Result<Jobs, Al
     ensures jobs { IfOk result (λ r. AreNewJobs checked.now plan.now (all_nodes plan.now) r.jobs.items) }
     ensures ends { IfOk result (λ r. AreEnds plan.now (length plan.now.waves) r.ends.items) }
 {
-    let _ = checked.graph();
+    let graph = checked.graph();
     let mut jobs = Vec::new(alloc);
     let mut ends = Vec::new(alloc);
     for wave in plan.waves.as_slice() {
         jobs = with_wave(alloc, checked, plan, wave, jobs)?;
         ends.push(jobs.len())?;
     }
-    Ok(Jobs { jobs, ends })
+    let spares = spares_of(alloc, graph, jobs.as_slice(), ends.as_slice())?;
+    Ok(Jobs { jobs, ends, spares })
 }

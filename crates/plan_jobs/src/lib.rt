@@ -16,6 +16,8 @@ mod block;
 mod jobs;
 mod making;
 mod places;
+mod sharing;
 
 pub use block::run_block;
 pub use jobs::{Jobs, jobs_of};
+pub use sharing::is_some_shared;

@@ -1,6 +1,6 @@
 //! The player of a node.
 
-ghost use Rattle.std.specs.Prelude.{◌≡◌, ◌==◌, [], false, Some, ℕ, ◌^◌, ◌<◌, ◌≤◌, length, map, replicate, pos, IfOk, List};
+ghost use Rattle.std.specs.Prelude.{◌≡◌, ◌==◌, [], false, Some, ℕ, ◌^◌, ◌<◌, ◌≤◌, length, map, IfOk, List};
 ghost use Rattle.std.specs.List.{All, Contains, list_any};
 ghost use Rattle.graph_model.specs.Answers.{delay};
 ghost use Rattle.graph_model.specs.Bounds.{bounds};
@@ -19,7 +19,7 @@ use crate::places::{buffer_for, delay_of, own_of};
 use delay_lines::Line;
 use graph_model::{Bound, Graph, Node, Uid};
 use plan_model::{At, Home as PlanHome};
-use players::{Leaving, Player, SUB, Server, Wire};
+use players::{Leaving, Player, SUB, Server, Wire, zeros};
 use pool_waves::Home;
 use processors::Processor;
 use std::alloc::{AllocError, Global};
@@ -101,13 +101,6 @@ fn server_of(alloc: Global, node: &Node, bound: &Bound) -> Result<Server, AllocE
     }
     let processor = Processor::make(alloc, &node.kind, bound)?;
     Ok(Server::Between(processor))
-}
-
-/// So many zeros.
-fn zeros(alloc: Global, len: usize) -> Result<Vec<i64>, AllocError>
-    ensures { IfOk result (λ list. list.items ≡ replicate len (pos 0)) }
-{
-    Ok(vec![in alloc; 0; len]?)
 }
 
 /// The player of a node that nothing has come into.

@@ -1,8 +1,8 @@
 //! What a node does in a wave: it takes the frames of a block over its wires, its lines and its kernel.
 //!
 //! A [`Player`] has a [`Wire`] for each connection into its node and a delay line for each wire. It takes the frames in
-//! sub-blocks of up to 64: [`gather`] sums what the wires bring, each row by itself; the kernel makes rows of samples of
-//! them; [`scatter`] writes those into the buffers of the node's values. Input and output may have one buffer: a
+//! sub-blocks of up to 64: it sums what the wires bring, each row by itself; the kernel makes rows of samples of them;
+//! those it writes into the buffers of the node's values. Input and output may have one buffer: a
 //! sub-block reads all that it needs before it writes.
 //!
 //! It promises that a block leaves what its frames one by one would leave, each of them reading the pool and the node's
@@ -19,11 +19,10 @@ mod playing;
 mod scattering;
 mod serving;
 
-pub use gathering::{Wire, gather};
-pub use leaving::Leaving;
+pub use gathering::Wire;
+pub use leaving::{Leaving, zeros};
 pub use part::Stage;
 pub use playing::{Player, SUB, Server};
-pub use scattering::scatter;
 
 #[cfg(test)]
 mod tests;

@@ -82,7 +82,7 @@ fn each_job_passes_with_its_index_and_fills_its_buffer(rt: HostRuntime) -> Resul
         Buffer::zeros(alloc, 2)?,
         Buffer::zeros(alloc, 2)?,
     ];
-    run_wave(&rt, &gate, &5, &mut jobs, &mut pool, 2);
+    run_wave(&rt, 2, &gate, &5, &mut jobs, &mut pool, 2);
     let seen = gate
         .marks
         .each_ref()

@@ -35,10 +35,11 @@ impl<'a, S, G: Gate, P: Part<S>> Work<Table<'a, S, G>> for Job<P> {
     }
 }
 
-/// Runs a wave: each of its jobs passes the gate with its node's index and then takes this many frames. It takes no
-/// memory.
+/// Runs a wave in at most so many threads, of which this one is one: each of its jobs passes the gate with its node's
+/// index and then takes this many frames. It takes no memory.
 pub fn run_wave<T: Threads + Sync, G: Gate + Sync, S: Sync, P: Part<S> + Send>(
     rt: &T,
+    threads: usize,
     gate: &G,
     shared: &S,
     jobs: &mut [Job<P>],
@@ -55,7 +56,7 @@ pub fn run_wave<T: Threads + Sync, G: Gate + Sync, S: Sync, P: Part<S> + Send>(
         gate,
         shared,
     };
-    fork_join::run(rt, &table, jobs);
+    fork_join::run(rt, threads, &table, jobs);
     let Table {
         pool: _,
         frames: _,

@@ -14,7 +14,7 @@ pub with_wave-requires-clause-live : goal.with_wave-requires-clause-live
 with_wave-requires-clause-live c =
     let at : c.wave-item.result ≡ get_or c.args.plan.now.waves c.loop-wave.wave-index c.wave-item.result = c.wave-item.is ∙ ap (λ (xs : List Wave). get_or xs c.loop-wave.wave-index c.wave-item.result) c.as_slice-wave-items.ensures in
     let lt : c.loop-wave.wave-index < length c.args.plan.now.waves = omega (arith, c.loop-wave-test.true, ap length c.as_slice-wave-items.ensures) in
-    subst (λ (w : Wave). All (λ (u : Uid). is_live c.args.checked.now u.0 ≡ true) w.nodes) (sym at) (wave_live c.args.checked.now c.args.plan.now c.graph.ensures.sound c.requires.certified c.loop-wave.wave-index c.wave-item.result lt)
+    subst (λ (w : Wave). All (λ (u : Uid). is_live c.args.checked.now u.0 ≡ true) w.nodes) (sym at) (wave_live c.args.checked.now c.args.plan.now c.graph-graph.ensures.sound c.requires.certified c.loop-wave.wave-index c.wave-item.result lt)
 
 pub loop-wave-preserved : goal.loop-wave-preserved
 loop-wave-preserved c =

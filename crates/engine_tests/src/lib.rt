@@ -1,0 +1,16 @@
+//! Tests of `engine` beside the definition: in whatever blocks an input comes, one node a wave or in waves, an engine gives
+//! what `renderer` finds of the whole input. And that two nodes of one wave run beside each other inside one block.
+//!
+//! It has no code but tests.
+#![tactic(auto)]
+
+#[cfg(test)]
+mod blocks;
+#[cfg(test)]
+mod comparing;
+#[cfg(test)]
+mod gates;
+#[cfg(test)]
+mod generated;
+#[cfg(test)]
+mod worked;
