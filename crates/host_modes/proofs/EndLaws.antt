@@ -2,26 +2,17 @@
 use Rattle.std.proofs.Common.{◌≡◌, ℕ, ℤ, List, take, Option, Some, None, ◌+◌, ◌*◌, ◌/◌, ◌<◌, ◌≤◌, length, arith, refl, sym, ap, ◌∙◌, subst, inl, inr}
 use Rattle.std.specs.Prelude.{Ok, Err}
 use Rattle.graph_model.specs.declared.graph.Graph.{Graph}
-use Rattle.gh_outside.specs.Holdings.{Holding, Holds, HeldBytes, IsMissing, IsPast}
-use Rattle.wav_pcm.specs.Heads.{most_data}
-use Rattle.wav_pcm.specs.Files.{ReadsAs, data_size, recorded}
+use Rattle.gh_outside.specs.Holdings.{Holding, HeldBytes, IsMissing, IsPast}
+use Rattle.wav_pcm.specs.Files.{ReadsAs, data_size}
 use Rattle.wav_pcm.specs.declared.head.Head.{Head}
 use Rattle.wav_pcm.specs.declared.head.WavFault.{WavFault}
 use Rattle.wav_pcm.proofs.OkLaws.{frames_are_there}
 use Rattle.std.specs.Option.{IfSome}
 use Rattle.host_modes.specs.Causes.{IsRefusal, IsGraphEnd, IsInputEnd, IsReadEnd, Stops}
 use Rattle.graph_model.specs.Graphs.{in_channels}
-use Rattle.host_modes.specs.Outputs.{data_bytes, output_of}
-use Rattle.host_modes.specs.Readings.{FindsRecords, FindsGraph, IsOutput, IsWritten, IsBegun, MayBeReady}
+use Rattle.host_modes.specs.Readings.{FindsRecords, FindsGraph}
 use Rattle.command_words.specs.Rendering.{RenderRequest}
-use Rattle.graph_model.specs.Sound.{IsSound}
-use Rattle.host_modes.specs.Files.{rendered}
-use Rattle.host_modes.specs.Forms.{written_frames, IsFormOf}
-use Rattle.host_modes.specs.Recordings.{IsInput}
-use Rattle.host_modes.specs.declared.output.forms.Form.{Form}
-use Rattle.host_modes.proofs.ChannelLaws.{ins_range}
-use Rattle.host_modes.proofs.OutputLaws.{output_is, bytes_are}
-use Rattle.host_modes.specs.Steps.{FindsHead, FindsRecording, IsHeadEnd, IsPart, IsTooLong, Refuses}
+use Rattle.host_modes.specs.Steps.{FindsHead, IsHeadEnd, IsTooLong, Refuses}
 use Rattle.host_modes.specs.declared.ends.End.{End}
 use Rattle.host_modes.specs.declared.ends.End.TheVariants.{Done, No, Words, SameName, Seed, Records, Graph as Checks, Wav, ReadFault, WriteFault, ReportFault, Memory, PlanText}
 
@@ -49,35 +40,6 @@ pub for_graph : (q : RenderRequest) (g : Graph) (held : Option Holding) → Find
 for_graph q g None found end i = inr i
 for_graph q g (Some files) found end i = inr (g, found, i)
 
--- ---- what a run leaves
-pub written : (q : RenderRequest) (bytes : List ℕ) (old new : Option Holding) → IsOutput q old bytes → Holds q.output bytes new → IsWritten q old new
-written q bytes None new is holds = tt
-written q bytes (Some old) None is holds = tt
-written q bytes (Some old) (Some new) (g, head, samples, job, is) holds = (g, head, samples, job, holds ∙ ap Some is)
-
-pub begun : (q : RenderRequest) (bytes : List ℕ) (old new : Option Holding) → IsOutput q old bytes → IsPart q.output bytes old new → IsBegun q old new
-begun q bytes None new is part = tt
-begun q bytes (Some old) None is part = tt
-begun q bytes (Some old) (Some new) is (inl same) = inl same
-begun q bytes (Some old) (Some new) (g, head, samples, job, is) (inr (n, first)) = inr (g, head, samples, job, (n, first ∙ ap (λ b. Some (take n b)) is))
-
-pub ready : (q : RenderRequest) (bytes : List ℕ) (held : Option Holding) → IsOutput q held bytes → MayBeReady q held
-ready q bytes None is = tt
-ready q bytes (Some files) (g, head, samples, job, is) = (g, head, samples, job)
-
--- what is rendered is the output
-pub is_output : (q : RenderRequest) (g : Graph) (form : Form) (samples : List ℤ) (bytes : List ℕ) (held : Option Holding) → IsSound g
-    → ((h : Head) × IsFormOf q g h form × IsInput q.input g h form.silent samples held)
-    → written_frames form * (form.channels * (form.bits / 8)) ≤ most_data → bytes ≡ rendered g form samples → FindsGraph q.graph g held → IsOutput q held bytes
-is_output q g form samples bytes None sound read few made graph = tt
-is_output q g form samples bytes (Some files) sound (head, of, input) few made graph = (
-  g,
-  head,
-  input.recorded,
-  record { graph = graph; recording = input.found; short = subst (λ n. n ≤ most_data) (bytes_are q g head form of) few },
-  made ∙ output_is q g head form input.recorded samples (ins_range g sound).0 of input.whole input.silent,
-)
-
 -- ---- the input
 there_is : (o : Option (List ℕ)) (P : List ℕ → Type 0) → (o ≡ None → ⊥) → IfSome o P → (bytes : List ℕ) × (o ≡ Some bytes) × P bytes
 there_is None P there told = absurd (there refl)
@@ -103,12 +65,6 @@ head_there name g (Some files) head some few (bytes, at, reads) past =
     let short : length bytes < head.from + data_size head = past bytes at in
     absurd (omega arith)
 
-pub found_more : (name : List ℕ) (g : Graph) (held : Option Holding) (head : Head) (samples : List ℤ) → FindsHead name g head held
-    → HeldBytes name held (λ file. samples ≡ recorded head file) → FindsRecording name g head samples held
-found_more name g None head samples found told = tt
-found_more name g (Some files) head samples (bytes, at, reads) told =
-    record { bytes = bytes; held = at; head_is = reads; samples_are = subst (λ (o : Option (List ℕ)). IfSome o (λ file. samples ≡ recorded head file)) at told }
-
 -- the end of a file is that of the input
 pub head_ends : (q : RenderRequest) (g : Graph) (held : Option Holding) (reads : Type 0) (end : End) → Stops (IsHeadEnd q.input g held) reads end → Stops (IsInputEnd q g held) reads end
 head_ends q g held reads end (inr more) = inr more
@@ -132,8 +88,3 @@ pub long_ends : (q : RenderRequest) (g : Graph) (held : Option Holding) (reads :
 long_ends q g None reads head end found (long, is) = inl (subst (λ (e : End). IsRefusal e) (sym is) tt)
 long_ends q g (Some files) reads head end (bytes, at, is_head) (long, is) =
     inl (subst (λ (e : End). IsInputEnd q g (Some files) e) (sym is) (bytes, at, inr (head, is_head, long, refl)))
-
-pub reading_ends : (q : RenderRequest) (g : Graph) (held : Option Holding) (later reads : Type 0) (end : End) → (later → reads) → Stops (λ e. ⊥) later end → Stops (IsInputEnd q g held) reads end
-reading_ends q g held later reads end since (inl r) = absurd r
-reading_ends q g held later reads end since (inr (inl r)) = inr (inl (r.0, since r.1))
-reading_ends q g held later reads end since (inr (inr m)) = inr (inr m)

@@ -1,7 +1,9 @@
 mod ChannelLaws
-mod PartLaws
+mod FileLaws
 mod OutputLaws
 mod EndLaws
 pub mod EndOnce
 mod RunLaws
 mod DemoLaws
+mod RenderLaws
+mod WriteLaws

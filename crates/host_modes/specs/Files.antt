@@ -1,5 +1,5 @@
 -- The output file, as it is written.
-use Rattle.std.specs.Prelude.{◌≡◌, ◌≢◌, ℕ, ◌+◌, ◌%◌, ◌≤◌, List, [], ◌++◌, Option, replicate}
+use Rattle.std.specs.Prelude.{◌≡◌, ℕ, ◌+◌, ◌%◌, ◌^◌, ◌≤◌, List, [], ◌++◌, Option, replicate}
 use Rattle.graph_model.specs.Graphs.{in_channels, out_channels}
 use Rattle.graph_model.specs.Sound.{IsSound}
 use Rattle.graph_model.specs.declared.graph.Graph.{Graph}
@@ -7,6 +7,7 @@ use Rattle.gh_outside.specs.Holdings.{Holding, IsPast}
 use Rattle.plan_text.specs.Texts.{text_of}
 use Rattle.wav_pcm.specs.Files.{data_size, IsHead}
 use Rattle.wav_pcm.specs.Heads.{head_of, most_data}
+use Rattle.wav_pcm.specs.Samples.{IsSize}
 use Rattle.wav_pcm.specs.declared.head.Head.{Head}
 use Rattle.engine_model.specs.Engines.{Stands}
 use Rattle.streaming.specs.Blocks.{all_frames, answer_put, AreLengths, HasRoom}
@@ -39,6 +40,8 @@ pub record IsRenderingOf (q : RenderRequest) (g : Graph) (head : Head) (r : Rend
   pub start : r.head ≡ head_of (out_channels g) head.rate (sample_size q head) (data_bytes q g head)
   pub bytes : r.data_bytes ≡ data_bytes q g head
   pub few : all_frames r.from ≤ 2 ^ 34
+  pub most : r.to.channels ≤ 32
+  pub size : IsSize r.to.bits
 
 -- what is made of them: the plan, its text, a new engine for that plan, and room for its blocks
 pub record IsJobOf (q : RenderRequest) (g : Graph) (head : Head) (j : Job) : Type 0 where

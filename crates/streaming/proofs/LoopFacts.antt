@@ -65,7 +65,7 @@ going_none i o e old lengths room may new are fits = record {
 }
 
 -- ---- the next
-not_past : (name other : List ℕ) (end : ℕ) (a b : Option Holding) → name ≢ other → KeepsOthers other a b → (IsPast name end a → ⊥) → IsPast name end b → ⊥
+pub not_past : (name other : List ℕ) (end : ℕ) (a b : Option Holding) → name ≢ other → KeepsOthers other a b → (IsPast name end a → ⊥) → IsPast name end b → ⊥
 not_past name other end None None differs same there past = past
 not_past name other end None (Some b) differs same there past = absurd same
 not_past name other end (Some a) None differs same there past = past

@@ -170,7 +170,7 @@ fn answer_sum<T: Threads + Sync>(
     let input = input(alloc, request.seed, frames(), latency)?;
     let mut output = vec![in alloc; 0i64; input.len()]?;
     let count = frames() as usize + latency as usize;
-    render_whole(rt, engine, 512, count, &input, &mut output);
+    render_whole(rt, engine, 512, count, 2, 2, &input, &mut output);
     byte_sum(alloc, &output)
 }
 
@@ -201,7 +201,7 @@ struct Shown {
 }
 
 /// Renders the samples by a plan, and makes the text.
-fn shown<T: Threads + Sync>(
+fn demonstrated<T: Threads + Sync>(
     rt: &T,
     alloc: Global,
     graph: &Checked,
@@ -235,7 +235,7 @@ fn prepare<T: Threads + Sync>(
 {
     let graph = graph_for(alloc, request)?;
     let plan = judged_plan(alloc, &graph)?;
-    shown(rt, alloc, &graph, plan, request)
+    demonstrated(rt, alloc, &graph, plan, request)
 }
 
 /// Reports what came of a graph that is made of a number.

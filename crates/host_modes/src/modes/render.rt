@@ -19,7 +19,7 @@ ghost use Rattle.host_modes.specs.Runs.{IsRun};
 
 use crate::ends::{End, Outcome};
 use crate::modes::compile::planned;
-use crate::output::files::{Rendering, rendering, write_file};
+use crate::output::files::{Rendering, rendering_of, write_file};
 use crate::reading::graphs::graph_under;
 use crate::reading::recordings::{Input, input_under};
 use command_words::RenderRequest;
@@ -75,7 +75,7 @@ fn job_of<'a>(
     let Ok((plan, text)) = planned(alloc, graph, request.waves) else {
         return Err(AllocError);
     };
-    let rendering = rendering(request, input);
+    let rendering = rendering_of(request, input);
     let block = longest(request.cutting.as_slice());
     let engine = Engine::new(alloc, graph, &plan, block)?;
     let room = Room::new(alloc, &rendering.from, &rendering.to, block)?;

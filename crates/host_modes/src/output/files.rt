@@ -8,6 +8,7 @@ ghost use Rattle.engine_model.specs.Engines.{IsSame, Stands};
 ghost use Rattle.streaming.specs.Appends.{IsAppended, IsPart, IsPartAppended};
 ghost use Rattle.streaming.specs.Blocks.{all_frames, first_frames, AreLengths, HasRoom, MayStream};
 ghost use Rattle.streaming.specs.declared.ends.StreamFault.TheVariants as Fault;
+ghost use Rattle.graph_model.specs.declared.graph.Graph.{Graph as GraphValue};
 ghost use Rattle.command_words.specs.Rendering.{render_said};
 ghost use Rattle.host_modes.specs.Files.{part_of, whole_of, IsRenderingOf};
 ghost use Rattle.host_modes.specs.Forms.{written_frames, IsForm, IsFormOf};
@@ -22,6 +23,7 @@ use wav_pcm::head_bytes;
 
 /// What is written: where its frames come from and where they go, the head of the file, and how many bytes its frames
 /// have in all.
+#[derive(Clone, Copy)]
 pub(crate) struct Rendering<'a> {
     pub(crate) from: Incoming<'a>,
     pub(crate) to: Outgoing<'a>,
@@ -30,11 +32,12 @@ pub(crate) struct Rendering<'a> {
 }
 
 /// What a request has written, in the form of its output.
-pub(crate) fn rendering<'a>(request: &RenderRequest<'a>, input: &Input) -> Rendering<'a>
+pub(crate) fn rendering_of<'a>(request: &RenderRequest<'a>, input: &Input) -> Rendering<'a>
     requires good { IsForm input.now.form }
     requires short { written_frames input.now.form * (input.now.form.channels * (input.now.form.bits / 8)) ≤ most_data }
     requires few { (input.now.form.frames ≤ 2 ^ 33) × (input.now.form.skipped ≤ input.now.form.frames) }
-    ensures { (g : Graph) → IsFormOf (render_said request.now) g input.now.head input.now.form → IsRenderingOf (render_said request.now) g input.now.head result }
+    requires silent { input.now.form.silent ≤ input.now.form.frames }
+    ensures { (g : GraphValue) → IsFormOf (render_said request.now) g input.now.head input.now.form → IsRenderingOf (render_said request.now) g input.now.head result }
 {
     let form = &input.form;
     let mut head = [0; 44];

@@ -1,56 +1,50 @@
-use Rattle.std.proofs.Common.{◌⊎◌, subst, refl, inl, inr}
+use Rattle.std.proofs.Common.{◌≡◌, List, ℕ, Option, Some, refl, subst, sym, inl, inr, ◌⊎◌, ⊤}
 use Rattle.std.specs.Prelude.{Ok}
 use Rattle.gh_outside.specs.Causes.{Rose}
 use Rattle.gh_outside.specs.Holdings.{GainsAll, GainsPrefix}
+use Rattle.engine_model.specs.Engines.{Stands}
 use Rattle.command_words.specs.Rendering.{render_said}
 use Rattle.command_words.specs.Requests.{render}
-use Rattle.host_modes.specs.Files.{file_of}
+use Rattle.host_modes.specs.Outside.{outside}
+use Rattle.host_modes.specs.Runs.{IsRun}
+use Rattle.host_modes.specs.declared.ends.End.{End}
 use Rattle.host_modes.specs.declared.ends.End.TheVariants.{Done, ReportFault}
-use Rattle.host_modes.proofs.EndLaws.{begun, ready, written}
-use Rattle.host_modes.proofs.RunLaws.{render_words, rendered_all, rendered_part, unreported}
+use Rattle.host_modes.proofs.RenderLaws.{engine_is, ready_stream, ready_work, run_by}
+use Rattle.host_modes.proofs.RunLaws.{render_words, unreported}
 use Rattle.host_modes.proofs.modes.render.perform.Goals as goal
 
 pub returns-in-Err : goal.returns-in-Err
 returns-in-Err g c =
     let held = g.F.Folder.held c.args.folder.now in
     let q = render_said c.args.request.now in
+    let j = c.args.job in
     unreported (Ok (render q)) held (g.F.Folder.read_faults c.args.folder.now) (g.F.Folder.write_faults c.args.folder.now) (g.R.Sink.bytes c.args.report.now)
-    (g.R.Sink.bytes c.put.new.self) (g.R.Sink.faults c.args.report.now) (g.R.Sink.faults c.put.new.self) c.args.job.plan c.args.job.text.items
+    (g.R.Sink.bytes c.put.new.self) (g.R.Sink.faults c.args.report.now) (g.R.Sink.faults c.put.new.self) j.plan j.text.items (Some j.engine)
     c.in-Err.ensures.cause.later Done
     (render_words q ReportFault (λ e. absurd (cc)) (λ e. absurd (cc)) (λ e. absurd (cc)) c.requires.differs)
-    (c.requires.plan, c.requires.text, refl, (c.requires.differs, ready q (file_of c.args.job.file) held c.requires.output))
+    (ready_work q j held c.requires.differs c.requires.ready)
+    (j.engine, refl, engine_is q j held j.engine c.requires.ready (record { graph = refl; plan = refl; block = refl }), c.requires.ready.job.new)
     (subst (λ text. GainsPrefix text (g.R.Sink.bytes c.args.report.now) (g.R.Sink.bytes c.put.new.self)) c.deref.ensures.value c.in-Err.ensures.failed)
     (elim c.in-Err.ensures.cause.failed [
       | inl missed ↦ absurd missed
       | inr rose ↦ rose
     ])
 
-pub returns-in-Ok-write_file : goal.returns-in-Ok-write_file
-returns-in-Ok-write_file g c =
-    let held = g.F.Folder.held c.args.folder.now in
-    let after = g.F.Folder.held c.write_file.new.folder in
-    let q = render_said c.args.request.now in
-    let bytes = file_of c.args.job.file in
-    rendered_all q held after (g.F.Folder.read_faults c.args.folder.now) (g.F.Folder.read_faults c.write_file.new.folder)
-    (g.F.Folder.write_faults c.args.folder.now) (g.F.Folder.write_faults c.write_file.new.folder) (g.R.Sink.bytes c.args.report.now) (g.R.Sink.bytes c.put.new.self)
-    (g.R.Sink.faults c.args.report.now) (g.R.Sink.faults c.put.new.self) c.args.job.plan c.args.job.text.items
-    (c.requires.plan, c.requires.text, refl, (c.requires.differs, ready q bytes held c.requires.output))
-    (subst (λ text. GainsAll text (g.R.Sink.bytes c.args.report.now) (g.R.Sink.bytes c.put.new.self)) c.deref.ensures.value c.in-Ok.ensures.gained)
-    c.in-Ok.ensures.cause.later c.write_file.ensures.reads c.write_file.ensures.writes
-    (begun q bytes held after c.requires.output c.write_file.ensures.part) c.write_file.ensures.others
-    (written q bytes held after c.requires.output c.in-Ok-write_file.ensures.ok)
+pub write_file-requires-clause-may : goal.write_file-requires-clause-may
+write_file-requires-clause-may g c κs within = ready_stream (render_said c.args.request.now) c.args.job (g.F.Folder.held c.args.folder.now) c.requires.differs c.requires.ready
 
 pub returns : goal.returns
 returns g c =
     let held = g.F.Folder.held c.args.folder.now in
-    let after = g.F.Folder.held c.write_file.new.folder in
     let q = render_said c.args.request.now in
-    let bytes = file_of c.args.job.file in
-    rendered_part q held after (g.F.Folder.read_faults c.args.folder.now) (g.F.Folder.read_faults c.write_file.new.folder)
+    let j = c.args.job in
+    subst (λ (end : End). IsRun (Ok (render q))
+    (outside held (g.F.Folder.read_faults c.args.folder.now) (g.F.Folder.write_faults c.args.folder.now) (g.R.Sink.bytes c.args.report.now) (g.R.Sink.faults c.args.report.now))
+    (outside (g.F.Folder.held c.write_file.new.folder) (g.F.Folder.read_faults c.write_file.new.folder) (g.F.Folder.write_faults c.write_file.new.folder) (g.R.Sink.bytes c.put.new.self) (g.R.Sink.faults c.put.new.self))
+    end (Some j.plan) (Some c.write_file.new.engine)) (sym c.end_of.ensures)
+    (run_by q j held (g.F.Folder.held c.write_file.new.folder) (g.F.Folder.read_faults c.args.folder.now) (g.F.Folder.read_faults c.write_file.new.folder)
     (g.F.Folder.write_faults c.args.folder.now) (g.F.Folder.write_faults c.write_file.new.folder) (g.R.Sink.bytes c.args.report.now) (g.R.Sink.bytes c.put.new.self)
-    (g.R.Sink.faults c.args.report.now) (g.R.Sink.faults c.put.new.self) c.args.job.plan c.args.job.text.items
-    (c.requires.plan, c.requires.text, refl, (c.requires.differs, ready q bytes held c.requires.output))
+    (g.R.Sink.faults c.args.report.now) (g.R.Sink.faults c.put.new.self) c.write_file.new.engine c.requires.differs c.requires.ready c.write_file.ensures.same c.write_file.ensures.others
     (subst (λ text. GainsAll text (g.R.Sink.bytes c.args.report.now) (g.R.Sink.bytes c.put.new.self)) c.deref.ensures.value c.in-Ok.ensures.gained)
-    c.in-Ok.ensures.cause.later c.write_file.ensures.reads c.write_file.ensures.writes
-    (begun q bytes held after c.requires.output c.write_file.ensures.part) c.write_file.ensures.others
-    c.in-Err-write_file.ensures.failed
+    c.in-Ok.ensures.cause.later c.write_file.ensures.reads c.write_file.ensures.writes c.write_file.result
+    c.write_file.ensures.done c.write_file.ensures.unread c.write_file.ensures.read_failed c.write_file.ensures.broken c.write_file.ensures.write_failed)

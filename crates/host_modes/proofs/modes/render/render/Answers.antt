@@ -11,5 +11,5 @@ returns-in-Ok g c =
     (g.F.Folder.read_faults c.args.folder.now) (g.F.Folder.read_faults c.prepare.new.folder) (g.F.Folder.write_faults c.args.folder.now)
     (g.F.Folder.write_faults c.prepare.new.folder) (g.R.Sink.bytes c.args.report.now) (g.R.Sink.faults c.args.report.now)
     (outside (g.F.Folder.held c.perform.new.folder) (g.F.Folder.read_faults c.perform.new.folder) (g.F.Folder.write_faults c.perform.new.folder)
-    (g.R.Sink.bytes c.perform.new.report) (g.R.Sink.faults c.perform.new.report)) c.perform.result.end c.perform.result.plan
+    (g.R.Sink.bytes c.perform.new.report) (g.R.Sink.faults c.perform.new.report)) c.perform.result.end c.perform.result.plan c.perform.result.engine
     c.prepare.ensures.held c.prepare.ensures.writes c.prepare.ensures.reads c.perform.ensures
