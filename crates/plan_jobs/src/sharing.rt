@@ -5,8 +5,9 @@ use players::Player;
 use pool_waves::Job;
 use std::alloc::{AllocError, Global};
 
-/// So many instructions that other threads take off one are worth starting them.
-const WORTH: u64 = 1 << 18;
+/// So many instructions that other threads take off one are worth starting them: about 100 microseconds, where to start
+/// and join a thread takes 15 to 20.
+const WORTH: u64 = 1 << 19;
 
 /// About how many instructions a frame takes: of the kernel, and for each wire.
 fn weight(kind: &Kind, wires: usize) -> u64 {
