@@ -1,18 +1,17 @@
 -- What went out of an engine is the graph's answer to what came in.
-use Rattle.std.proofs.Common.{◌≡◌, ℕ, ◌+◌, ◌-◌, ◌*◌, ◌≤◌, ◌<◌, List, [], ◌∷◌, ◌++◌, length, take, drop, Option, Some, None, refl, sym, ◌∙◌, ap, subst, arith, take_all}
+use Rattle.std.proofs.Common.{◌≡◌, ℕ, ◌-◌, ◌*◌, ◌≤◌, ◌<◌, List, [], ◌∷◌, ◌++◌, length, take, drop, Option, Some, None, refl, sym, ◌∙◌, ap, subst, arith}
 use Rattle.std.proofs.lemmas.List.Concat.{flat_map-append}
 use Rattle.std.proofs.lemmas.List.{append-nil, append_assoc, length-drop, length-take-le, take-append-drop}
 use Rattle.std.specs.Prelude.{ℤ}
 use Rattle.gh_outside.specs.Holdings.{Holding, HeldBytes}
 use Rattle.graph_model.specs.Answers.{answer}
-use Rattle.graph_model.specs.Graphs.{in_channels, out_channels, output_name}
+use Rattle.graph_model.specs.Graphs.{output_name}
 use Rattle.graph_model.specs.Histories.{History, frames_of, interleaved}
 use Rattle.graph_model.specs.Paths.{reach}
 use Rattle.graph_model.specs.Sound.{IsSound}
 use Rattle.graph_model.specs.declared.graph.Graph.{Graph}
 use Rattle.graph_model.proofs.AnswerLaws.{in-causal}
 use Rattle.graph_model.proofs.BlockLaws.{frames_are_interleaved, frames_of-append, length-frames_of}
-use Rattle.graph_model.proofs.NodeFacts.{input_some}
 use Rattle.std.proofs.Math.Nat.{mul-le-mul_right}
 use Rattle.std.proofs.Math.Seq.{drop-append_seam}
 use Rattle.wav_pcm.specs.Samples.{bytes_of, written}
@@ -21,7 +20,7 @@ use Rattle.engine_model.specs.Engines.{ins, outs, Parts, Stands}
 use Rattle.engine_model.proofs.CuttingLaws.{outputs_are_answers}
 use Rattle.engine_model.proofs.OutputFacts.{output_some}
 use Rattle.streaming.specs.Appends.{IsAppended, IsPartAppended}
-use Rattle.streaming.specs.Blocks.{all_frames, all_samples, answer_put, first_frames, first_samples, put_of, AreFrames, BreaksOff, Comes, HasPut, HasPutPart, HasStreamed}
+use Rattle.streaming.specs.Blocks.{all_samples, answer_put, first_frames, first_samples, put_of, AreFrames, BreaksOff, Comes, HasPut, HasPutPart, HasStreamed}
 use Rattle.streaming.specs.declared.ends.Incoming.{Incoming}
 use Rattle.streaming.specs.declared.ends.Outgoing.{Outgoing}
 use Rattle.streaming.proofs.StreamLaws.{drop-split, sub-mul}

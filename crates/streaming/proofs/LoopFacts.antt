@@ -9,10 +9,10 @@ use Rattle.graph_model.specs.Sound.{IsSound}
 use Rattle.graph_model.specs.Graphs.{in_channels, out_channels}
 use Rattle.wav_pcm.specs.Files.{data_size}
 use Rattle.wav_pcm.specs.Samples.{bytes_of}
-use Rattle.engine_model.specs.Engines.{ins, outs, IsSame, Parts, Stands}
+use Rattle.engine_model.specs.Engines.{IsSame, Parts, Stands}
 use Rattle.engine_model.proofs.CuttingLaws.{no_cutting_shows}
 use Rattle.streaming.specs.Appends.{IsAppended}
-use Rattle.streaming.specs.Blocks.{all_frames, all_samples, put_of, AreFrames, AreLengths, BreaksOff, Comes, HasPut, HasPutPart, HasRoom, HasStreamed, MayStream}
+use Rattle.streaming.specs.Blocks.{all_frames, all_samples, put_of, AreFrames, AreLengths, BreaksOff, HasPut, HasPutPart, HasRoom, HasStreamed, MayStream}
 use Rattle.streaming.specs.declared.ends.Incoming.{Incoming}
 use Rattle.streaming.specs.declared.ends.Outgoing.{Outgoing}
 use Rattle.streaming.specs.declared.room.Room.{Room}

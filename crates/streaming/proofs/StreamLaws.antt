@@ -1,5 +1,5 @@
 -- Blocks of frames one after another.
-use Rattle.std.proofs.Common.{◌≡◌, ◌≢◌, ℕ, zero, suc, ◌+◌, ◌-◌, ◌*◌, ◌≤◌, min, List, [], ◌∷◌, ◌++◌, length, take, drop, Option, Some, None, inl, inr, refl, sym, ◌∙◌, ap, subst, arith, take_all}
+use Rattle.std.proofs.Common.{◌≡◌, ◌≢◌, ℕ, zero, suc, ◌+◌, ◌-◌, ◌*◌, ◌≤◌, min, List, [], ◌∷◌, ◌++◌, length, take, drop, Option, Some, None, inl, inr, refl, sym, ◌∙◌, ap, subst, arith}
 use Rattle.std.proofs.lemmas.Bool.{cases_lt}
 use Rattle.std.proofs.lemmas.List.Concat.{flat_map-append}
 use Rattle.std.proofs.lemmas.List.{append_assoc, drop-replicate, length-append, length-drop, take_min, take-replicate}
@@ -10,8 +10,7 @@ use Rattle.gh_outside.specs.Holdings.{Holding, HeldBytes, Holds, KeepsOthers}
 use Rattle.graph_model.specs.Graphs.{out_channels}
 use Rattle.graph_model.specs.Sound.{IsSound}
 use Rattle.wav_pcm.specs.Samples.{bytes_of, written}
-use Rattle.engine_model.specs.Cuttings.{HasRendered}
-use Rattle.engine_model.specs.Engines.{ins, outs, Parts}
+use Rattle.engine_model.specs.Engines.{outs, Parts}
 use Rattle.engine_model.proofs.CuttingLaws.{joined}
 use Rattle.streaming.specs.Appends.{IsAppended, IsPartAppended}
 use Rattle.streaming.specs.Blocks.{all_samples, put_of, AreFrames, BreaksOff, Comes, HasStreamed}

@@ -1,5 +1,5 @@
 -- Frames out of a file, through an engine, and onto the end of another file.
-use Rattle.std.specs.Prelude.{◌≡◌, ◌≤◌, ◌<◌, ◌≢◌, ℕ, ◌+◌, ◌-◌, ◌*◌, ◌/◌, ◌^◌, ℤ, pos, List, ◌++◌, length, take, drop, replicate, All, Option, None}
+use Rattle.std.specs.Prelude.{◌≡◌, ◌≤◌, ◌<◌, ◌≢◌, ℕ, ◌+◌, ◌-◌, ◌*◌, ◌/◌, ◌^◌, ℤ, pos, List, ◌++◌, length, take, drop, replicate, All, Option}
 use Rattle.graph_model.specs.Answers.{answer}
 use Rattle.graph_model.specs.Histories.{History, frames_of, interleaved}
 use Rattle.graph_model.specs.Sound.{IsSound}

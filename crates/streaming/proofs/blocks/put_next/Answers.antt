@@ -1,4 +1,4 @@
-use Rattle.std.proofs.Common.{◌≡◌, ◌-◌, ◌*◌, ℤ, List, drop, take, ◌∙◌, subst}
+use Rattle.std.proofs.Common.{◌≡◌, ◌-◌, ◌*◌, drop, take, ◌∙◌, subst}
 use Rattle.std.proofs.lemmas.List.{length-take-le}
 use Rattle.wav_pcm.specs.Samples.{bytes_of}
 use Rattle.streaming.specs.Appends.{IsAppended, IsPartAppended}

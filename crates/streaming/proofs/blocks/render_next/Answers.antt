@@ -1,17 +1,15 @@
-use Rattle.std.proofs.Common.{◌≡◌, ◌+◌, ◌*◌, ◌≤◌, ◌^◌, ◌<◌, ◌++◌, ℕ, ℤ, List, drop, length, take, sym, ap, ◌∙◌, subst, arith}
+use Rattle.std.proofs.Common.{◌≡◌, ◌+◌, ◌*◌, ◌^◌, ◌<◌, ◌++◌, drop, length, take, sym, ap, ◌∙◌, subst}
 use Rattle.std.proofs.lemmas.List.{length-take-le}
-use Rattle.graph_model.specs.Histories.{frames_of}
 use Rattle.engine_model.specs.Cuttings.{HasRendered}
-use Rattle.engine_model.specs.Engines.{ins, outs}
-use Rattle.streaming.proofs.TakeFacts.{is_block, put_back, took, took_frames, took_long}
+use Rattle.streaming.proofs.TakeFacts.{is_block, put_back, took, took_frames}
 use Rattle.streaming.proofs.blocks.render_next.Goals as goal
 
 pub render-requires-clause-block : goal.render-requires-clause-block
 render-requires-clause-block g c κs within = (
   c.args.count,
   is_block c.args.from.now c.args.engine.now c.args.count c.take_in.new.into c.args.came.now c.requires.may.sound c.requires.may.come c.take_in.ensures.len c.requires.come
-  (take (c.args.count * c.args.to.now.channels) c.args.went.now) c.requires.some c.requires.most c.in_ok-take_in.ensures.small
-  (length-take-le (c.args.count * c.args.to.now.channels) c.args.went.now c.requires.go ∙ ap (λ m. c.args.count * m) (sym c.requires.may.go)),
+      (take (c.args.count * c.args.to.now.channels) c.args.went.now) c.requires.some c.requires.most c.in_ok-take_in.ensures.small
+      (length-take-le (c.args.count * c.args.to.now.channels) c.args.went.now c.requires.go ∙ ap (λ m. c.args.count * m) (sym c.requires.may.go)),
 )
 
 pub render-requires-clause-count : goal.render-requires-clause-count

@@ -1,6 +1,5 @@
-use Rattle.std.proofs.Common.{◌≡◌, ◌+◌, ◌≤◌, ◌<◌, ◌%◌, ℕ, length, ◌∙◌, subst, sym, ap, arith, rules, inl, inr}
-use Rattle.streaming.specs.Blocks.{all_frames}
-use Rattle.streaming.proofs.LoopFacts.{all_put, broken_put, going_none, going_on, part_put, same_after, same_broken, unread_put, write_missed}
+use Rattle.std.proofs.Common.{◌∙◌, arith, rules}
+use Rattle.streaming.proofs.LoopFacts.{all_put, broken_put, going_none, going_on, unread_put, write_missed}
 use Rattle.streaming.proofs.PartLaws.{keeps}
 use Rattle.streaming.proofs.blocks.stream.Goals as goal
 

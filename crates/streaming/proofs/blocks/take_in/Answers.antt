@@ -1,14 +1,7 @@
-use Rattle.std.proofs.Common.{◌≡◌, ◌≤◌, ◌*◌, ◌-◌, ◌+◌, ◌/◌, ◌++◌, min, ℕ, ℤ, List, length, take, drop, replicate, pos, unsigned_abs, sym, ap, ◌∙◌, subst, arith, rules, slice_range}
-use Rattle.std.specs.Prelude.{OnOk, OnErr}
-use Rattle.std.specs.List.{All}
-use Rattle.std.proofs.lemmas.List.Elements.{All-append, All-replicate}
+use Rattle.std.proofs.Common.{◌≡◌, ◌≤◌, ◌*◌, ◌-◌, ◌+◌, ◌/◌, ◌++◌, min, length, take, drop, replicate, pos, sym, ap, ◌∙◌, subst, arith}
 use Rattle.std.proofs.lemmas.List.{length-replicate, length-take-le}
 use Rattle.std.proofs.Math.Nat.{le_trans, min-le_left, min-le_right, mul-le-mul_right}
-use Rattle.gh_outside.specs.Causes.{Rose}
-use Rattle.gh_outside.specs.Holdings.{Holding, HeldBytes}
-use Rattle.graph_model.specs.Bounds.{AreUpTo}
-use Rattle.wav_pcm.specs.Files.{data_size, frame_size, recorded}
-use Rattle.wav_pcm.specs.Samples.{IsScaled}
+use Rattle.wav_pcm.specs.Files.{frame_size}
 use Rattle.streaming.specs.Blocks.{AreFrames}
 use Rattle.streaming.proofs.PartLaws.{on_err, on_ok}
 use Rattle.streaming.proofs.TakeFacts.{failed_read, none_read, of_held, small_samples, some_told, within_data}

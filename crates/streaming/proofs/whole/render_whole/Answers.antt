@@ -1,7 +1,4 @@
-use Rattle.std.proofs.Common.{◌≡◌, ◌+◌, ◌-◌, ◌*◌, ◌≤◌, ◌<◌, ◌^◌, ℕ, length, take, ◌∙◌, subst, sym, ap, arith, rules, refl}
-use Rattle.std.proofs.Math.Nat.{min-le_left, min-le_right}
-use Rattle.engine_model.specs.Cuttings.{HasRendered}
-use Rattle.engine_model.proofs.CuttingLaws.{no_cutting_shows}
+use Rattle.std.proofs.Common.{◌≡◌, ◌+◌, ◌<◌, ◌^◌, ◌∙◌, subst, sym, arith, rules}
 use Rattle.streaming.proofs.WholeFacts.{next_block, next_frames, next_rendered, whole_taken}
 use Rattle.streaming.proofs.whole.render_whole.Goals as goal
 
@@ -9,8 +6,8 @@ pub render-requires-clause-block : goal.render-requires-clause-block
 render-requires-clause-block g c κs within = (
   c.min.result,
   next_block c.args.engine.now c.loop-done.engine c.loop-done.done c.min.result c.args.frames c.args.ins c.args.outs c.args.input.now c.loop-done.output
-  c.requires.sound c.requires.ins c.requires.outs c.loop-done.invariant.rendered.same c.requires.comes (c.loop-done.auto.output ∙ c.requires.goes) (search rules) (search rules)
-  (search rules) c.requires.small,
+      c.requires.sound c.requires.ins c.requires.outs c.loop-done.invariant.rendered.same c.requires.comes (c.loop-done.auto.output ∙ c.requires.goes) (search rules) (search rules)
+      (search rules) c.requires.small,
 )
 
 pub render-requires-clause-count : goal.render-requires-clause-count
@@ -28,7 +25,7 @@ loop-done-preserved g c = record {
       c.render.new.self c.render.new.output c.loop-done.invariant.rendered c.render.ensures.rendered c.render.auto.output;
   count =
       let n = next_frames c.args.engine.now c.loop-done.engine c.loop-done.done c.min.result c.args.frames c.args.ins c.args.outs c.args.input.now c.loop-done.output
-          c.requires.sound c.requires.ins c.requires.outs c.loop-done.invariant.rendered.same c.requires.comes (c.loop-done.auto.output ∙ c.requires.goes) (search rules) in
+      c.requires.sound c.requires.ins c.requires.outs c.loop-done.invariant.rendered.same c.requires.comes (c.loop-done.auto.output ∙ c.requires.goes) (search rules) in
       let before = c.loop-done.invariant.count in
       let now = c.render.ensures.count in
       omega (arith, n, before, now);
