@@ -42,7 +42,7 @@ fn main(rt: HostRuntime) -> ExitCode {
     let words = match words(&rt) {
         Ok(words) => words,
         Err(error) => match error.kind() {
-            ErrorKind::OutOfMemory => return print_end(&rt, status::ended(End::Memory, None)),
+            ErrorKind::OutOfMemory => return print_end(&rt, status::ended(End::Memory, None, None)),
             _ => {
                 let _ = eprintln!(rt; "graph_host: the words were not given");
                 return ExitCode::from(NO_WORDS);
@@ -52,6 +52,7 @@ fn main(rt: HostRuntime) -> ExitCode {
     let mut folder = DiskFolder::new(&rt);
     let mut report = WriterSink::new(io::writer(&rt));
     let run = run(&rt, rt.alloc(), words, &mut folder, &mut report);
+    drop(folder);
     print_end(&rt, run)
 }
 

@@ -2,11 +2,12 @@
 
 ghost use Rattle.std.specs.Prelude.{◌≡◌};
 
+use engine::Engine;
 use host_modes::End;
 use plan_model::Plan;
 
 /// What a run hands back.
-#[derive(Debug, PartialEq, Eq, Drop)]
+#[derive(Drop)]
 pub struct Run {
     /// The program's exit status.
     pub status: u8,
@@ -14,4 +15,6 @@ pub struct Run {
     pub end: End,
     /// The plan that was made, or judged in `check`, where the run came to its report.
     pub plan: Option<Plan>,
+    /// The engine that rendered, in `render` and `demo`, where the run came to its report.
+    pub engine: Option<Engine>,
 }

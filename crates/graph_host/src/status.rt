@@ -4,13 +4,15 @@ ghost use Rattle.std.specs.Prelude.{◌≡◌};
 ghost use Rattle.graph_host.specs.Ends.{status_of};
 
 use crate::runs::Run;
+use engine::Engine;
 use host_modes::End;
 use plan_model::Plan;
 
-/// An end with its status, and the plan that it comes with.
-pub(crate) fn ended(end: End, plan: Option<Plan>) -> Run
+/// An end with its status, and the plan and the engine that it comes with.
+pub(crate) fn ended(end: End, plan: Option<Plan>, engine: Option<Engine>) -> Run
     ensures end { result.end ≡ end }
     ensures plan { result.plan ≡ plan }
+    ensures engine { result.engine ≡ engine }
     ensures status { result.status ≡ status_of end }
 {
     let status = match &end {
@@ -25,5 +27,10 @@ pub(crate) fn ended(end: End, plan: Option<Plan>) -> Run
         End::Memory => 8,
         End::PlanText { .. } => 9,
     };
-    Run { status, end, plan }
+    Run {
+        status,
+        end,
+        plan,
+        engine,
+    }
 }

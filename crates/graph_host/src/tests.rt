@@ -244,8 +244,8 @@ fn a_demonstration(rt: HostRuntime) -> Result<(), Fail> {
 const DEMONSTRATION: &[u8] =
     b"nodes 3\nconnections 2\nlatency 0\ntotal 0\nchannels 1\nframes 4800 sum 1213100\n";
 
-/// The input of `render`, the call of the folder that fails, and the status, the faults of reading, writing and
-/// reporting, and how many bytes of the output are there.
+/// The input of `render --cuts 2,1`, the call of the folder that fails, and the status, the faults of reading, writing
+/// and reporting, and how many bytes of the output are there.
 const FAILING: &str = "\
 one byte > 0 > 5 1 0 0 none
 one byte > 1 > 5 1 0 0 none
@@ -254,13 +254,16 @@ one byte > 3 > 5 1 0 0 none
 one byte > 4 > 5 1 0 0 none
 one byte > 5 > 5 1 0 0 none
 one byte > 6 > 5 1 0 0 none
-one byte > 7 > 5 1 0 0 none
-one byte > 8 > 6 0 1 0 none
-one byte > 9 > 6 0 1 0 22
+one byte > 7 > 6 0 1 0 none
+one byte > 8 > 6 0 1 0 22
+one byte > 9 > 5 1 0 0 44
 one byte > 10 > 6 0 1 0 44
-three frames > 10 > 6 0 1 0 47
 one byte > 11 > 6 0 1 0 45
-one byte > 12 > 0 0 0 0 46";
+one byte > 12 > 0 0 0 0 46
+three frames > 10 > 6 0 1 0 46
+three frames > 11 > 5 1 0 0 48
+three frames > 12 > 6 0 1 0 49
+three frames > 13 > 0 0 0 0 50";
 
 /// Status, faults, and how many bytes of the output are there.
 fn outcome(
@@ -292,7 +295,7 @@ fn each_call_of_the_folder_fails_in_turn(rt: HostRuntime) -> Result<(), Fail> {
         let mut report = MemorySink::new(alloc, List::new(alloc), 1000)?;
         let run = run_line(
             &rt,
-            "render g.json in.wav out.wav",
+            "render g.json in.wav out.wav --cuts 2,1",
             &mut folder,
             &mut report,
         )?;
@@ -365,5 +368,27 @@ fn a_room_too_small_for_the_frames(rt: HostRuntime) -> Result<(), Fail> {
     assert_eq!(rt; run.end, End::WriteFault);
     assert_eq!(rt; folder.file("out.wav"), THREE_FRAMES.get(..44));
     assert_eq!(rt; report.bytes(), STRAIGHT_PLAN);
+    Ok(())
+}
+
+#[test]
+fn a_second_block_that_is_not_read(rt: HostRuntime) -> Result<(), Fail> {
+    let alloc = rt.alloc();
+    let mut folder = folder(alloc, "straight", "three frames", &[11])?;
+    let mut report = MemorySink::new(alloc, List::new(alloc), 1000)?;
+    let run = run_line(
+        &rt,
+        "render g.json in.wav out.wav --cuts 2,1",
+        &mut folder,
+        &mut report,
+    )?;
+    let frames = match &run.engine {
+        Some(engine) => engine.frames(),
+        None => 0,
+    };
+    assert_eq!(rt; run.end, End::ReadFault);
+    assert_eq!(rt; frames, 2);
+    assert_eq!(rt; report.bytes(), STRAIGHT_PLAN);
+    assert_eq!(rt; folder.file("out.wav"), THREE_FRAMES.get(..48));
     Ok(())
 }

@@ -7,7 +7,7 @@ use Rattle.std.proofs.Math.Nat.{mul-mod_left}
 use Rattle.graph_model.specs.Answers.{answer}
 use Rattle.graph_model.specs.Bounds.{AreUpTo}
 use Rattle.graph_model.specs.Graphs.{in_channels, out_channels}
-use Rattle.graph_model.specs.Histories.{frames_of, interleaved}
+use Rattle.graph_model.specs.Histories.{frames_of, interleaved, silence}
 use Rattle.graph_model.specs.Paths.{latency_of_graph}
 use Rattle.graph_model.specs.Sound.{IsSound}
 use Rattle.graph_model.specs.declared.graph.Graph.{Graph}
@@ -57,6 +57,12 @@ module _ (g : Graph) (drawn : List ℤ) (n k : ℕ) (ins_two : in_channels g ≡
       let frames : length (frames_of (in_channels g) input) ≡ n + k =
       ap (λ m. length (frames_of m input)) ins_two ∙ length-frames_of 2 (n + k) input (omega arith) length_input in
       length-answer g (frames_of (in_channels g) input) ∙ ap (λ m. m * out_channels g) frames ∙ ap (λ m. (n + k) * m) outs_two
+
+  -- the history that they make
+  pub history_is : frames_of (in_channels g) (drawn ++ replicate (k * 2) (pos 0)) ≡ silence k (in_channels g) ++ frames_of (in_channels g) drawn
+  history_is =
+      ap (λ m. frames_of (in_channels g) (drawn ++ replicate (k * m) (pos 0))) (sym ins_two)
+      ∙ with_silence (in_channels g) n k drawn (rw ins_two (omega arith)) (length_drawn ∙ ap (λ m. n * m) (sym ins_two))
 
   pub answer_is : interleaved (answer g (frames_of (in_channels g) (drawn ++ replicate (k * 2) (pos 0)))) ≡ answered g k drawn
   answer_is =

@@ -29,6 +29,7 @@ some_told name end (Some files) Q P there told f none = of (files name) refl tol
   where
     none_some : {x : List ℕ} → None ≡ Some x → ⊥
     none_some e = cc
+
     of : (o : Option (List ℕ)) → files name ≡ o → HeldBytes name (Some (λ _. o)) P → Q
     of None at told = absurd (there (λ bytes held. absurd (none_some (sym at ∙ held))))
     of (Some file) at told = f file told

@@ -37,9 +37,21 @@ fn answered<T: Threads + Sync, F: Folder, R: Sink>(
         Ok(Request::Compile(request)) => compile(alloc, &request, folder, report),
         Ok(Request::Check(request)) => check(alloc, &request, folder, report),
         Ok(Request::Demo(request)) => demo(rt, alloc, &request, folder, report),
-        Err(Refused::Fault(WordsFault::NoRequest)) => Outcome::early(End::Words),
-        Err(Refused::Fault(WordsFault::OutOfRange)) => Outcome::early(End::Seed),
-        Err(Refused::Memory) => Outcome::early(End::Memory),
+        Err(Refused::Fault(WordsFault::NoRequest)) => Outcome {
+            end: End::Words,
+            plan: None,
+            engine: None,
+        },
+        Err(Refused::Fault(WordsFault::OutOfRange)) => Outcome {
+            end: End::Seed,
+            plan: None,
+            engine: None,
+        },
+        Err(Refused::Memory) => Outcome {
+            end: End::Memory,
+            plan: None,
+            engine: None,
+        },
     }
 }
 

@@ -1,6 +1,6 @@
 //! How a run ends.
 
-ghost use Rattle.std.specs.Prelude.{◌≡◌, None};
+ghost use Rattle.std.specs.Prelude.{◌≡◌};
 
 use connections::GraphFault;
 use engine::Engine;
@@ -63,19 +63,4 @@ pub struct Outcome {
     pub plan: Option<Plan>,
     /// The engine that rendered, in `render` and `demo`, where the run came to its report.
     pub engine: Option<Engine>,
-}
-
-impl Outcome {
-    /// An end before anything was reported.
-    pub(crate) fn early(end: End) -> Outcome
-        ensures end { result.end ≡ end }
-        ensures plan { result.plan ≡ None }
-        ensures engine { result.engine ≡ None }
-    {
-        Outcome {
-            end,
-            plan: None,
-            engine: None,
-        }
-    }
 }

@@ -76,6 +76,10 @@ pub(crate) fn check<F: Folder, R: Sink>(
 {
     match prepare(alloc, folder, request) {
         Ok(work) => reported(report, work, None),
-        Err(end) => Outcome::early(end),
+        Err(end) => Outcome {
+            end,
+            plan: None,
+            engine: None,
+        },
     }
 }

@@ -79,6 +79,10 @@ pub(crate) fn compile<F: Folder, R: Sink>(
 {
     match prepare(alloc, folder, request) {
         Ok(work) => reported(report, work, None),
-        Err(end) => Outcome::early(end),
+        Err(end) => Outcome {
+            end,
+            plan: None,
+            engine: None,
+        },
     }
 }

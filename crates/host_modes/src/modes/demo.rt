@@ -255,6 +255,10 @@ pub(crate) fn demo<T: Threads + Sync, F: Folder, R: Sink>(
     let _ = folder;
     match prepare(rt, alloc, request) {
         Ok(shown) => reported(report, shown.work, Some(shown.engine)),
-        Err(AllocError) => Outcome::early(End::Memory),
+        Err(AllocError) => Outcome {
+            end: End::Memory,
+            plan: None,
+            engine: None,
+        },
     }
 }

@@ -179,10 +179,18 @@ pub(crate) fn render<T: Threads + Sync, F: Folder, R: Sink>(
         result.end result.plan result.engine }
 {
     if request.input == request.output {
-        return Outcome::early(End::SameName);
+        return Outcome {
+            end: End::SameName,
+            plan: None,
+            engine: None,
+        };
     }
     match prepare(alloc, folder, request) {
         Ok(job) => perform(rt, job, request, folder, report),
-        Err(end) => Outcome::early(end),
+        Err(end) => Outcome {
+            end,
+            plan: None,
+            engine: None,
+        },
     }
 }

@@ -1,3 +1,4 @@
+use Rattle.std.proofs.Common.{refl}
 use Rattle.std.specs.Prelude.{Ok}
 use Rattle.command_words.specs.Compiling.{compile_said}
 use Rattle.command_words.specs.Requests.{compile}
@@ -11,6 +12,6 @@ returns-in-Ok g c =
     let writes = g.F.Folder.write_faults c.args.folder.now in
     quiet_rest (Ok (compile (compile_said c.args.request.now))) held (g.F.Folder.held c.prepare.new.folder) (g.F.Folder.read_faults c.args.folder.now) later
     writes (g.F.Folder.write_faults c.prepare.new.folder) (g.R.Sink.bytes c.args.report.now) (g.R.Sink.bytes c.reported.new.report)
-    (g.R.Sink.faults c.args.report.now) (g.R.Sink.faults c.reported.new.report) c.reported.result.end c.reported.result.plan
+    (g.R.Sink.faults c.args.report.now) (g.R.Sink.faults c.reported.new.report) c.reported.result.end c.reported.result.plan c.reported.result.engine
     c.prepare.ensures.held c.prepare.ensures.writes c.prepare.ensures.reads
-    (c.reported.ensures (Ok (compile (compile_said c.args.request.now))) held later writes tt c.in-Ok.ensures.work)
+    (c.reported.ensures (Ok (compile (compile_said c.args.request.now))) held later writes tt c.in-Ok.ensures.work refl)

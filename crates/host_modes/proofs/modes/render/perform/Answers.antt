@@ -1,8 +1,9 @@
-use Rattle.std.proofs.Common.{◌≡◌, List, ℕ, Option, Some, refl, subst, sym, inl, inr, ◌⊎◌, ⊤}
+use Rattle.std.proofs.Common.{◌≡◌, List, ℕ, Option, Some, refl, subst, sym, inl, inr, ◌⊎◌}
 use Rattle.std.specs.Prelude.{Ok}
 use Rattle.gh_outside.specs.Causes.{Rose}
 use Rattle.gh_outside.specs.Holdings.{GainsAll, GainsPrefix}
 use Rattle.engine_model.specs.Engines.{Stands}
+use Rattle.streaming.specs.Blocks.{AreLengths}
 use Rattle.command_words.specs.Rendering.{render_said}
 use Rattle.command_words.specs.Requests.{render}
 use Rattle.host_modes.specs.Outside.{outside}
@@ -30,8 +31,12 @@ returns-in-Err g c =
       | inr rose ↦ rose
     ])
 
-pub write_file-requires-clause-may : goal.write_file-requires-clause-may
-write_file-requires-clause-may g c κs within = ready_stream (render_said c.args.request.now) c.args.job (g.F.Folder.held c.args.folder.now) c.requires.differs c.requires.ready
+pub write_file-written-requires-clause-may : goal.write_file-written-requires-clause-may
+write_file-written-requires-clause-may g c κs within = ready_stream (render_said c.args.request.now) c.args.job (g.F.Folder.held c.args.folder.now) c.requires.differs c.requires.ready
+
+pub write_file-written-requires-clause-lengths : goal.write_file-written-requires-clause-lengths
+write_file-written-requires-clause-lengths g c κs within =
+    subst (λ (l : List ℕ). AreLengths c.args.job.engine.block l) (sym c.as_slice-lengths.ensures) c.requires.ready.job.lengths
 
 pub returns : goal.returns
 returns g c =
@@ -40,11 +45,11 @@ returns g c =
     let j = c.args.job in
     subst (λ (end : End). IsRun (Ok (render q))
     (outside held (g.F.Folder.read_faults c.args.folder.now) (g.F.Folder.write_faults c.args.folder.now) (g.R.Sink.bytes c.args.report.now) (g.R.Sink.faults c.args.report.now))
-    (outside (g.F.Folder.held c.write_file.new.folder) (g.F.Folder.read_faults c.write_file.new.folder) (g.F.Folder.write_faults c.write_file.new.folder) (g.R.Sink.bytes c.put.new.self) (g.R.Sink.faults c.put.new.self))
-    end (Some j.plan) (Some c.write_file.new.engine)) (sym c.end_of.ensures)
-    (run_by q j held (g.F.Folder.held c.write_file.new.folder) (g.F.Folder.read_faults c.args.folder.now) (g.F.Folder.read_faults c.write_file.new.folder)
-    (g.F.Folder.write_faults c.args.folder.now) (g.F.Folder.write_faults c.write_file.new.folder) (g.R.Sink.bytes c.args.report.now) (g.R.Sink.bytes c.put.new.self)
-    (g.R.Sink.faults c.args.report.now) (g.R.Sink.faults c.put.new.self) c.write_file.new.engine c.requires.differs c.requires.ready c.write_file.ensures.same c.write_file.ensures.others
+    (outside (g.F.Folder.held c.write_file-written.new.folder) (g.F.Folder.read_faults c.write_file-written.new.folder) (g.F.Folder.write_faults c.write_file-written.new.folder) (g.R.Sink.bytes c.put.new.self) (g.R.Sink.faults c.put.new.self))
+    end (Some j.plan) (Some c.write_file-written.new.engine)) (sym c.end_of.ensures)
+    (run_by q j held (g.F.Folder.held c.write_file-written.new.folder) (g.F.Folder.read_faults c.args.folder.now) (g.F.Folder.read_faults c.write_file-written.new.folder)
+    (g.F.Folder.write_faults c.args.folder.now) (g.F.Folder.write_faults c.write_file-written.new.folder) (g.R.Sink.bytes c.args.report.now) (g.R.Sink.bytes c.put.new.self)
+    (g.R.Sink.faults c.args.report.now) (g.R.Sink.faults c.put.new.self) c.write_file-written.new.engine c.requires.differs c.requires.ready c.write_file-written.ensures.same c.write_file-written.ensures.others
     (subst (λ text. GainsAll text (g.R.Sink.bytes c.args.report.now) (g.R.Sink.bytes c.put.new.self)) c.deref.ensures.value c.in-Ok.ensures.gained)
-    c.in-Ok.ensures.cause.later c.write_file.ensures.reads c.write_file.ensures.writes c.write_file.result
-    c.write_file.ensures.done c.write_file.ensures.unread c.write_file.ensures.read_failed c.write_file.ensures.broken c.write_file.ensures.write_failed)
+    c.in-Ok.ensures.cause.later c.write_file-written.ensures.reads c.write_file-written.ensures.writes c.write_file-written.result
+    c.write_file-written.ensures.done c.write_file-written.ensures.unread c.write_file-written.ensures.read_failed c.write_file-written.ensures.broken c.write_file-written.ensures.write_failed)
