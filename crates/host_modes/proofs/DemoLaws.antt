@@ -36,12 +36,15 @@ pub few_late : (g : Graph) (plan : Plan) → IsSound g → IsCertified g plan �
 few_late g plan sound certified = subst (λ n. n ≤ 2 ^ 26) (sym (latency_is_reach g plan sound certified)) (few_frames_late g sound)
 
 -- n frames of samples on two channels, and then k frames of silence
+pub length_two : (drawn : List ℤ) (n k : ℕ) → length drawn ≡ n * 2 → length (drawn ++ replicate (k * 2) (pos 0)) ≡ (n + k) * 2
+length_two drawn n k long =
+    let zeros = length-replicate {A = ℤ} (k * 2) (pos 0) in
+    let all = length-append drawn (replicate (k * 2) (pos 0)) in
+    omega (arith, zeros, all, long)
+
 module _ (g : Graph) (drawn : List ℤ) (n k : ℕ) (ins_two : in_channels g ≡ 2) (length_drawn : length drawn ≡ n * 2) where
   length_input : length (drawn ++ replicate (k * 2) (pos 0)) ≡ (n + k) * 2
-  length_input =
-      let zeros = length-replicate {A = ℤ} (k * 2) (pos 0) in
-      let all = length-append drawn (replicate (k * 2) (pos 0)) in
-      omega (arith, zeros, all, length_drawn)
+  length_input = length_two drawn n k length_drawn
 
   pub whole : length (drawn ++ replicate (k * 2) (pos 0)) % in_channels g ≡ 0
   whole = ap (λ m. length (drawn ++ replicate (k * 2) (pos 0)) % m) ins_two ∙ ap (λ l. l % 2) length_input ∙ mul-mod_left (n + k) 2

@@ -168,10 +168,11 @@ fn answer_sum<T: Threads + Sync>(
     ensures stands { IfOk result (λ n. Stands engine.new (demo_input (demo_said request.now) latency)) }
 {
     let input = input(alloc, request.seed, frames(), latency)?;
-    let mut output = vec![in alloc; 0i64; input.len()]?;
+    let mut room = vec![in alloc; 0i64; input.len()]?;
     let count = frames() as usize + latency as usize;
-    render_whole(rt, engine, 512, count, 2, 2, &input, &mut output);
-    byte_sum(alloc, &output)
+    let output: &mut [i64] = &mut room;
+    render_whole(rt, engine, 512, count, 2, 2, &input, output);
+    byte_sum(alloc, output)
 }
 
 /// The plan of a graph one by one, which the checker judges yes.
