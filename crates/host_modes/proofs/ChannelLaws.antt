@@ -1,5 +1,5 @@
 -- 1 to 32 channels come into a sound graph.
-use Rattle.std.proofs.Common.{◌≡◌, ◌≤◌, true, Some, None, refl, sym, ap, ◌∙◌}
+use Rattle.std.proofs.Common.{◌≡◌, ◌≤◌, Some, None, refl, sym, ap, ◌∙◌}
 use Rattle.std.specs.List.{position}
 use Rattle.std.specs.Option.{is_some}
 use Rattle.std.proofs.lemmas.Bool.{false≢true}

@@ -1,5 +1,5 @@
 -- Why the steps of a run end, and what they leave.
-use Rattle.std.proofs.Common.{◌≡◌, ℕ, ℤ, List, take, Option, Some, None, ◌+◌, ◌*◌, ◌/◌, ◌<◌, ◌≤◌, length, arith, refl, sym, ap, ◌∙◌, subst, inl, inr}
+use Rattle.std.proofs.Common.{◌≡◌, ℕ, List, Option, Some, None, ◌+◌, ◌<◌, ◌≤◌, length, arith, refl, sym, subst, inl, inr}
 use Rattle.std.specs.Prelude.{Ok, Err}
 use Rattle.graph_model.specs.declared.graph.Graph.{Graph}
 use Rattle.gh_outside.specs.Holdings.{Holding, HeldBytes, IsMissing, IsPast}

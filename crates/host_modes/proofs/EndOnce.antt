@@ -1,5 +1,5 @@
 -- What is asked has one end with what a folder holds.
-use Rattle.std.proofs.Common.{◌≡◌, ◌≢◌, ℕ, List, Option, Some, None, refl, sym, ap, ◌∙◌, subst, inl, inr, ◌<◌, ◌≤◌, arith}
+use Rattle.std.proofs.Common.{◌≡◌, ℕ, List, Option, Some, None, refl, sym, ap, ◌∙◌, subst, inl, inr, ◌<◌, ◌≤◌, arith}
 use Rattle.std.specs.Prelude.{◌⊎◌, Result, Ok, Err}
 use Rattle.graph_model.specs.Graphs.{in_channels}
 use Rattle.graph_model.specs.declared.graph.Graph.{Graph}

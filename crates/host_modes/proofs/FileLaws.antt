@@ -1,17 +1,17 @@
 -- The output file: what is written of a request, and a first part of it.
-use Rattle.std.proofs.Common.{◌≡◌, ◌≢◌, ℕ, ℤ, pos, ◌+◌, ◌-◌, ◌*◌, ◌/◌, ◌%◌, ◌≤◌, ◌<◌, min, List, [], ◌++◌, length, take, drop, replicate, Option, Some, None, refl, sym, ◌∙◌, ap, subst, arith, inl, inr, take_all}
+use Rattle.std.proofs.Common.{◌≡◌, ℕ, ℤ, pos, ◌+◌, ◌-◌, ◌*◌, ◌/◌, ◌%◌, ◌≤◌, ◌<◌, min, List, ◌++◌, length, take, drop, replicate, Option, Some, None, refl, sym, ◌∙◌, ap, subst, arith, inl, inr, take_all}
 use Rattle.std.proofs.lemmas.Bool.{cases_lt}
 use Rattle.std.proofs.lemmas.List.{append_assoc, length-append, length-drop, length-replicate, length-take-le, take-append-le, take_min}
 use Rattle.std.proofs.Math.Nat.{mul-le-mul_right, mul_assoc}
-use Rattle.std.proofs.Math.Seq.{take-append_seam, take-length}
-use Rattle.gh_outside.specs.Holdings.{Holding, HeldBytes, IsPast, KeepsOthers}
+use Rattle.std.proofs.Math.Seq.{take-append_seam}
+use Rattle.gh_outside.specs.Holdings.{Holding, HeldBytes, IsPast}
 use Rattle.graph_model.specs.Answers.{answer}
 use Rattle.graph_model.specs.Graphs.{in_channels, out_channels}
 use Rattle.graph_model.specs.Histories.{frames_of, interleaved, silence}
 use Rattle.graph_model.specs.declared.graph.Graph.{Graph}
 use Rattle.graph_model.proofs.BlockLaws.{length-frames_of}
 use Rattle.wav_pcm.specs.Files.{data_size, recorded, IsHead}
-use Rattle.wav_pcm.specs.Heads.{head_of, wave_file_of}
+use Rattle.wav_pcm.specs.Heads.{head_of}
 use Rattle.wav_pcm.specs.Samples.{bytes_of}
 use Rattle.wav_pcm.specs.declared.head.Head.{Head}
 use Rattle.wav_pcm.proofs.PartLaws.{length-recorded}

@@ -1,5 +1,5 @@
 -- What a rendering leaves, by how its output was written.
-use Rattle.std.proofs.Common.{◌≡◌, ◌≢◌, ℕ, ℤ, ◌+◌, ◌*◌, ◌≤◌, ◌<◌, List, [], length, take, take_all, Option, Some, None, refl, sym, ◌∙◌, ap, subst, inl, inr, arith}
+use Rattle.std.proofs.Common.{◌≡◌, ◌≢◌, ℕ, ℤ, ◌+◌, ◌≤◌, ◌<◌, List, length, take, Option, Some, None, refl, sym, ◌∙◌, ap, subst, inl, inr, arith}
 use Rattle.std.proofs.Math.Seq.{take-length}
 use Rattle.std.specs.Prelude.{Result, Ok, Err, OnOk, ⊤}
 use Rattle.gh_outside.specs.Causes.{Rose}
@@ -21,17 +21,15 @@ use Rattle.command_words.specs.Requests.{render}
 use Rattle.host_modes.specs.Asked.{mode_of}
 use Rattle.host_modes.specs.Ends.{end_by}
 use Rattle.host_modes.specs.Engines.{HasEngine, HasHalted, HasPlayed, IsEngineOf}
-use Rattle.host_modes.specs.Files.{part_of, whole_of, IsInputOf, IsReadyJob, IsRenderingOf}
+use Rattle.host_modes.specs.Files.{part_of, whole_of, IsReadyJob}
 use Rattle.host_modes.specs.Outputs.{all_input, first_of, output_after, output_of}
 use Rattle.host_modes.specs.Outside.{outside}
 use Rattle.host_modes.specs.Plans.{IsBestPlan}
 use Rattle.host_modes.specs.Readings.{FindsGraph, IsBegun, IsJob, IsWritten, MayBeReady}
 use Rattle.host_modes.specs.Runs.{IsRun}
 use Rattle.host_modes.specs.Works.{IsWork}
-use Rattle.host_modes.specs.declared.ends.End.TheVariants.{Done, ReadFault, ReportFault, WriteFault}
+use Rattle.host_modes.specs.declared.ends.End.TheVariants.{Done, ReadFault, WriteFault}
 use Rattle.host_modes.specs.declared.modes.render.Job.{Job}
-use Rattle.host_modes.specs.declared.output.files.Rendering.{Rendering}
-use Rattle.host_modes.proofs.ChannelLaws.{ins_range}
 use Rattle.host_modes.proofs.FileLaws.{first_long, history_all, history_first, part_is, part_is_first, whole_is}
 use Rattle.host_modes.proofs.RunLaws.{render_words}
 

@@ -1,23 +1,22 @@
 -- What a run leaves, end by end.
 use Rattle.std.proofs.Common.{◌≡◌, ℕ, List, Option, Some, None, refl, sym, subst, inl, inr, ◌≤◌, arith}
-use Rattle.std.specs.Prelude.{◌≢◌, ◌⊎◌, Ok, Err, ⊤}
+use Rattle.std.specs.Prelude.{◌≢◌, Ok, Err, ⊤}
 use Rattle.plan_model.specs.declared.plan.Plan.{Plan}
 use Rattle.plan_model.specs.declared.rule.Rule.{Rule}
 use Rattle.gh_outside.specs.Causes.{Rose}
 use Rattle.gh_outside.specs.Holdings.{Holding, KeepsOthers, GainsAll, GainsPrefix}
 use Rattle.command_words.specs.Rendering.{RenderRequest}
 use Rattle.command_words.specs.Requests.{render, compile, check, demo}
-use Rattle.host_modes.specs.Asked.{Asked, IfRender, IsRender}
+use Rattle.host_modes.specs.Asked.{Asked, IfRender}
 use Rattle.host_modes.specs.Causes.{IsByWords, IsCaused, IsEndBy, IsReadEnd, Reads, Stops}
 use Rattle.host_modes.specs.Ends.{IsEarly, IsOfFiles}
 use Rattle.host_modes.specs.Outside.{outside, Outside}
-use Rattle.host_modes.specs.Plans.{IsJudged, IsPlanUnder, IsVerdict}
+use Rattle.host_modes.specs.Plans.{IsPlanUnder}
 use Rattle.host_modes.specs.Readings.{IsBegun, IsWritten, MayHoldGraph}
 use Rattle.host_modes.specs.Runs.{IsQuiet, IsRun, KeepsFiles}
 use Rattle.engine_model.specs.Engines.{Parts}
 use Rattle.host_modes.specs.Engines.{IsPlayed, IsWorkEngine}
 use Rattle.host_modes.specs.Works.{IsAnswered, IsWork}
-use Rattle.host_modes.proofs.EndOnce.{verdict_case}
 use Rattle.host_modes.specs.declared.ends.End.{End}
 use Rattle.host_modes.specs.declared.ends.End.TheVariants.{Done, No, Words, SameName, Seed, Records, Graph as Checks, Wav, ReadFault, WriteFault, ReportFault, Memory, PlanText}
 

@@ -1,5 +1,5 @@
 -- The engine that a run hands back.
-use Rattle.std.specs.Prelude.{◌≡◌, ℤ, List, [], Option, Some, None, Ok, Err, ◌⊎◌, ⊤}
+use Rattle.std.specs.Prelude.{◌≡◌, ℤ, List, [], Option, Some, None, Ok, ◌⊎◌, ⊤}
 use Rattle.graph_model.specs.Sound.{IsSound}
 use Rattle.gh_outside.specs.Holdings.{Holding}
 use Rattle.plan_model.specs.declared.plan.Plan.{Plan}
@@ -8,7 +8,7 @@ use Rattle.wav_pcm.specs.declared.head.Head.{Head}
 use Rattle.engine_model.specs.Engines.{Parts, Stands}
 use Rattle.command_words.specs.Demos.{DemoRequest}
 use Rattle.command_words.specs.Rendering.{RenderRequest}
-use Rattle.command_words.specs.Requests.{render, compile, check, demo}
+use Rattle.command_words.specs.Requests.{render, demo}
 use Rattle.host_modes.specs.Asked.{mode_of, Asked}
 use Rattle.host_modes.specs.Demos.{demo_graph, demo_input}
 use Rattle.host_modes.specs.Outputs.{all_input, first_of, output_after}

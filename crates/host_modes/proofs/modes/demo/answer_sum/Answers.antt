@@ -1,11 +1,10 @@
-use Rattle.std.proofs.Common.{◌≡◌, ◌≤◌, ◌<◌, ◌+◌, ◌*◌, ◌^◌, ◌++◌, ◌∙◌, ℕ, ℤ, List, length, pos, replicate, ap, subst, sum, sym, arith, rules}
+use Rattle.std.proofs.Common.{◌≡◌, ◌≤◌, ◌+◌, ◌*◌, ◌^◌, ◌++◌, ◌∙◌, ℕ, ℤ, List, length, pos, replicate, ap, subst, sum, sym, rules}
 use Rattle.std.specs.Prelude.{IfOk, Result, Ok, Err}
 use Rattle.command_words.specs.Demos.{DemoRequest}
 use Rattle.graph_model.specs.Answers.{answer}
 use Rattle.graph_model.specs.Bounds.{AreUpTo}
-use Rattle.graph_model.specs.Graphs.{in_channels, out_channels}
+use Rattle.graph_model.specs.Graphs.{in_channels}
 use Rattle.graph_model.specs.Histories.{frames_of, interleaved, silence}
-use Rattle.graph_model.specs.Paths.{latency_of_graph}
 use Rattle.graph_model.specs.declared.graph.Graph.{Graph}
 use Rattle.graph_gen.specs.Draws.{samples_drawn}
 use Rattle.graph_gen.proofs.SampleFacts.{samples_are_input}
@@ -14,8 +13,8 @@ use Rattle.wav_pcm.specs.Samples.{bytes_of}
 use Rattle.command_words.specs.Demos.{demo_said}
 use Rattle.engine_model.specs.Engines.{Stands}
 use Rattle.streaming.proofs.AnswerLaws.{stands_for, went_is}
-use Rattle.host_modes.specs.Demos.{demo_bytes, demo_frames, demo_graph, demo_input}
-use Rattle.host_modes.proofs.DemoLaws.{demo_bytes_are, few_samples, history_is, ins_are, length_two, outs_are, small}
+use Rattle.host_modes.specs.Demos.{demo_bytes, demo_frames, demo_input}
+use Rattle.host_modes.proofs.DemoLaws.{demo_bytes_are, few_samples, history_is, ins_are, length_two, small}
 use Rattle.host_modes.proofs.modes.demo.answer_sum.Goals as goal
 
 -- what comes in: so many frames

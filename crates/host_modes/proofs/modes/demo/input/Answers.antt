@@ -1,4 +1,4 @@
-use Rattle.std.proofs.Common.{◌≡◌, ◌++◌, ◌*◌, ◌∙◌, ap, replicate, pos, rules}
+use Rattle.std.proofs.Common.{◌≡◌, ◌++◌, ◌*◌, ◌∙◌, ap, rules}
 use Rattle.graph_gen.specs.Draws.{samples_drawn}
 use Rattle.host_modes.proofs.modes.demo.input.Goals as goal
 

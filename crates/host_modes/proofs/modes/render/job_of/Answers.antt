@@ -1,4 +1,4 @@
-use Rattle.std.proofs.Common.{◌≡◌, ◌∙◌, ℕ, List, subst, sym, ap}
+use Rattle.std.proofs.Common.{ℕ, List, subst, sym}
 use Rattle.wav_pcm.specs.Samples.{IsSize}
 use Rattle.wav_pcm.specs.declared.head.Head.{Head}
 use Rattle.streaming.specs.Blocks.{AreLengths, HasRoom}

@@ -1,8 +1,6 @@
-use Rattle.std.proofs.Common.{◌≡◌, List, ℕ, Option, Some, refl, subst, sym, inl, inr, ◌⊎◌}
+use Rattle.std.proofs.Common.{List, ℕ, Some, refl, subst, sym, inl, inr}
 use Rattle.std.specs.Prelude.{Ok}
-use Rattle.gh_outside.specs.Causes.{Rose}
 use Rattle.gh_outside.specs.Holdings.{GainsAll, GainsPrefix}
-use Rattle.engine_model.specs.Engines.{Stands}
 use Rattle.streaming.specs.Blocks.{AreLengths}
 use Rattle.command_words.specs.Rendering.{render_said}
 use Rattle.command_words.specs.Requests.{render}

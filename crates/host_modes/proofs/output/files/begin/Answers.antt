@@ -1,4 +1,4 @@
-use Rattle.std.proofs.Common.{[], ◌++◌, subst}
+use Rattle.std.proofs.Common.{[], subst}
 use Rattle.std.proofs.lemmas.List.{append-nil}
 use Rattle.streaming.specs.Appends.{IsPart}
 use Rattle.streaming.proofs.PartLaws.{appended, either_part, keeps, part-appended, part-of, whole}

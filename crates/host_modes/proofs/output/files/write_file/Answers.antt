@@ -1,4 +1,4 @@
-use Rattle.std.proofs.Common.{◌≡◌, ◌≤◌, ◌<◌, ◌+◌, ◌∙◌, ap, arith}
+use Rattle.std.proofs.Common.{◌∙◌, arith}
 use Rattle.streaming.proofs.PartLaws.{keeps}
 use Rattle.host_modes.proofs.WriteLaws.{begun_part, broken_file, halted_file, pad_missed, padless_file, whole_file}
 use Rattle.host_modes.proofs.output.files.write_file.Goals as goal
