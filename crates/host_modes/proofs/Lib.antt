@@ -1,4 +1,3 @@
-mod ChannelLaws
 mod FileLaws
 mod OutputLaws
 mod EndLaws

@@ -70,11 +70,6 @@ MayBeReady q (Some files) = IsReady q files
 abbrev pub MayRender : RenderRequest → Option Holding → Type 0
 MayRender q held = (q.input ≢ q.output) × MayBeReady q held
 
--- these are the bytes of the file that the request asks for
-abbrev pub IsOutput : RenderRequest → Option Holding → List ℕ → Type 0
-IsOutput q None bytes = ⊤
-IsOutput q (Some files) bytes = (g : Graph) × (head : Head) × (samples : List ℤ) × IsJob q g head samples files × (bytes ≡ output_of q g head samples)
-
 -- the output holds the file that the request asks for
 abbrev pub IsWritten : RenderRequest → Option Holding → Option Holding → Type 0
 IsWritten q (Some old) (Some new) =

@@ -1,4 +1,4 @@
-//! The output file: its form, and its bytes in memory and in the folder.
+//! The output file: its form, and its writing.
 
 pub(crate) mod files;
 pub(crate) mod forms;
