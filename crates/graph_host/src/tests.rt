@@ -154,15 +154,45 @@ fn words(alloc: Global, line: &str) -> Result<Vec<String>, AllocError> {
     Ok(words)
 }
 
+/// What a run hands back, as the tests ask for it: the engine's frames are 0 where there is none.
+#[derive(Drop)]
+struct Told {
+    status: u8,
+    end: End,
+    is_planned: bool,
+    frames: u64,
+}
+
+/// What a run hands back, in short.
+fn in_short(run: Run) -> Told {
+    let Run {
+        status,
+        end,
+        plan,
+        engine,
+    } = run;
+    let frames = match &engine {
+        Some(engine) => engine.frames(),
+        None => 0,
+    };
+    Told {
+        status,
+        end,
+        is_planned: plan.is_some(),
+        frames,
+    }
+}
+
 /// Runs a command line over a folder and a report.
 fn run_line<R: Abort + Threads + Sync + AllocGlobal>(
     rt: &R,
     line: &str,
     folder: &mut MemoryFolder,
     report: &mut MemorySink,
-) -> Result<Run, AllocError> {
+) -> Result<Told, AllocError> {
     let alloc = rt.alloc();
-    Ok(run(rt, alloc, words(alloc, line)?, folder, report))
+    let words = words(alloc, line)?;
+    Ok(in_short(run(rt, alloc, words, folder, report)))
 }
 
 /// The command line, the graph, the input and the output.
@@ -268,7 +298,7 @@ three frames > 13 > 0 0 0 0 50";
 /// Status, faults, and how many bytes of the output are there.
 fn outcome(
     alloc: Global,
-    run: &Run,
+    run: &Told,
     folder: &MemoryFolder,
     report: &MemorySink,
 ) -> Result<String, AllocError> {
@@ -329,7 +359,7 @@ fn the_report_fails(rt: HostRuntime) -> Result<(), Fail> {
         let run = run_line(&rt, line, &mut folder, &mut report)?;
         let outcome = outcome(alloc, &run, &folder, &report)?;
         assert_eq!(rt; outcome.as_str(), wanted, "{case}");
-        assert!(rt; run.plan.is_some(), "{case}");
+        assert!(rt; run.is_planned, "{case}");
     }
     Ok(())
 }
@@ -382,12 +412,8 @@ fn a_second_block_that_is_not_read(rt: HostRuntime) -> Result<(), Fail> {
         &mut folder,
         &mut report,
     )?;
-    let frames = match &run.engine {
-        Some(engine) => engine.frames(),
-        None => 0,
-    };
     assert_eq!(rt; run.end, End::ReadFault);
-    assert_eq!(rt; frames, 2);
+    assert_eq!(rt; run.frames, 2);
     assert_eq!(rt; report.bytes(), STRAIGHT_PLAN);
     assert_eq!(rt; folder.file("out.wav"), THREE_FRAMES.get(..48));
     Ok(())
