@@ -19,7 +19,7 @@ use Rattle.plan_model.proofs.DualityLaws.{tight_is_optimum_law}
 use Rattle.alignment.specs.Carried.{carried_by}
 use Rattle.alignment.specs.Links.{links_of}
 use Rattle.alignment.specs.Networks.{ArePoints, IsNetworkOf}
-use Rattle.alignment.specs.Places.{ArePositions, IsTimely, places_of, line_of}
+use Rattle.alignment.specs.Places.{ArePositions, IsTimely, places_of, delay_of, line_of}
 use Rattle.alignment.specs.declared.links.Link.{Link}
 use Rattle.alignment.proofs.ArcFacts.{arc_found}
 use Rattle.alignment.proofs.FlowFacts as flows
@@ -77,9 +77,6 @@ module _ (g : Graph) (points : List ℕ) (net : Network) (solved : Solved) (s : 
   pub few_links : length (links_of g points) ≤ 2 ^ 13
   few_links = places.few_lines g points net.arcs solved.flow solved.potential s.sound s.are s.network.arcs s.units s.each s.tight s.root (arc_found g s.sound)
 
-  pub short_delays : All (λ l. l.delay ≤ 2 ^ 26) delays
-  short_delays = places.short g points net.arcs solved.flow solved.potential s.sound s.are s.network.arcs s.units s.each s.tight s.root (arc_found g s.sound)
-
   pub leasts : All (λ a. IsWithin (2 ^ 30) a.least) net.arcs
   leasts = (network_is_one g points net s.sound s.are s.network).leasts
 
@@ -96,12 +93,12 @@ module _ (g : Graph) (points : List ℕ) (net : Network) (solved : Solved) (s : 
       (places.tight_at g points net.arcs solved.flow solved.potential s.sound s.are s.network.arcs s.units s.each s.tight s.root (arc_found g s.sound)))
 
   -- and so is the weight less the latencies
-  pub bound_is : (sum : ℕ) → sum ≡ sum_by (λ (l : LineAt). l.delay) delays → (weighted (λ a. a.least) net.arcs solved.flow -ℤ pos (sum_by (λ (l : Link). l.latency) (links_of g points))) ≡ pos sum
+  pub bound_is : (sum : ℕ) → sum ≡ sum_by (delay_of solved.potential) (links_of g points) → (weighted (λ a. a.least) net.arcs solved.flow -ℤ pos (sum_by (λ (l : Link). l.latency) (links_of g points))) ≡ pos sum
   bound_is sum is =
       sym (flows.bound_is g points net.arcs solved.flow s.sound s.are s.network.arcs s.units) ∙ total_is
       ∙ ap pos (sym (places.total_is g points net.arcs solved.flow solved.potential s.sound s.are s.network.arcs s.units s.each s.tight s.root (arc_found g s.sound)) ∙ sym is)
 
-  pub is_aligned : (sum bound : ℕ) → sum ≡ sum_by (λ (l : LineAt). l.delay) delays → bound ≡ sum → IsAligned g at delays sum arcs bound
+  pub is_aligned : (sum bound : ℕ) → sum ≡ sum_by (delay_of solved.potential) (links_of g points) → bound ≡ sum → IsAligned g at delays sum arcs bound
   is_aligned sum bound is same = record {
     nodes = places.nodes_are g points net.arcs solved.flow solved.potential s.sound s.are s.network.arcs s.units s.each s.tight s.root (arc_found g s.sound);
     best = places.best g points net.arcs solved.flow solved.potential s.sound s.are s.network.arcs s.units s.each s.tight s.root (arc_found g s.sound) is_flow
@@ -119,6 +116,6 @@ module _ (g : Graph) (points : List ℕ) (net : Network) (solved : Solved) (s : 
 
   -- the same of what is equal to them
   pub is_aligned_as : (places : List At) (ls : List LineAt) (sum : ℕ) (units : List Units) (bound : ℕ)
-      → places ≡ at → ls ≡ delays → sum ≡ sum_by (λ (l : LineAt). l.delay) ls → units ≡ arcs → bound ≡ sum → IsAligned g places ls sum units bound
+      → places ≡ at → ls ≡ delays → sum ≡ sum_by (delay_of solved.potential) (links_of g points) → units ≡ arcs → bound ≡ sum → IsAligned g places ls sum units bound
   is_aligned_as places ls sum units bound placed lined summed carried same =
-      rw (placed, lined, carried) (is_aligned sum bound (summed ∙ ap (sum_by (λ (l : LineAt). l.delay)) lined) same)
+      rw (placed, lined, carried) (is_aligned sum bound summed same)

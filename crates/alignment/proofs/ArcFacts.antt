@@ -28,7 +28,7 @@ use Rattle.graph_model.proofs.NodeFacts.{output_is_node}
 
 -- ---- lists
 -- the only entry that passes is the one that is found
-find_only : {X : Type 0} (p : X → Bool) (xs : List X) (x : X) → Contains xs x → p x ≡ true → ((y : X) → Contains xs y → p y ≡ true → y ≡ x) → find p xs ≡ Some x
+pub find_only : {X : Type 0} (p : X → Bool) (xs : List X) (x : X) → Contains xs x → p x ≡ true → ((y : X) → Contains xs y → p y ≡ true → y ≡ x) → find p xs ≡ Some x
 find_only p [] x has is only = let l = has.1 in absurd (omega arith)
 find_only p (y ∷ xs) x has is only = go (p y) refl (first_or_later y x xs has) (λ there. find_only p xs x there is (λ z h. only z (at_tail y z xs h)))
   where
@@ -64,8 +64,9 @@ input_is_no_output (Input channels) i o = absurd (cc)
 input_is_no_output kind i o = absurd (cc)
 
 -- ---- the least difference between two points
--- by their names: 0 from the root, minus the latency from the output node to the root, the latency of the tail between nodes
-abbrev least_between : Graph → ℕ → ℕ → ℤ
+-- by their names: 0 from the root, minus the latency from the output node to the root, the latency of the tail
+-- between nodes
+abbrev pub least_between : Graph → ℕ → ℕ → ℤ
 least_between g zero h = pos 0
 least_between g (suc t) zero = cond (suc t == output_name g) (neg_ℤ (pos (latency_of_graph g))) (pos 0)
 least_between g (suc t) (suc h) = pos (latency_at g (suc t))
@@ -76,7 +77,7 @@ IsAsBetween g d = d.least ≡ least_between g d.tail d.head
 
 module _ (g : Graph) (sound : IsSound g) where
   -- the input node is not the output node
-  ends_differ : input_name g ≡ output_name g → ⊥
+  pub ends_differ : input_name g ≡ output_name g → ⊥
   ends_differ same =
       let i = find_one (λ n. is_input n.kind) g.nodes sound.shaped.ends.0 in
       let o = find_one (λ n. is_output n.kind) g.nodes sound.shaped.ends.1 in
@@ -93,23 +94,23 @@ module _ (g : Graph) (sound : IsSound g) where
       omega (arith, is, named)
 
   -- the output node has a name from 1 on
-  output_named : 1 ≤ output_name g
+  pub output_named : 1 ≤ output_name g
   output_named = named (output_name g) g.nodes
       (all_weaker (λ n. bad_member n ≡ None) IsInRange g.nodes in_range (recursion_from_All (λ n. bad_member n ≡ None) g.nodes sound.shaped.in_range)) (output_is_node g sound)
 
   -- between nodes it is the latency of the tail
-  between_nodes : (t h : ℕ) → 1 ≤ t → 1 ≤ h → pos (latency_at g t) ≡ least_between g t h
+  pub between_nodes : (t h : ℕ) → 1 ≤ t → 1 ≤ h → pos (latency_at g t) ≡ least_between g t h
   between_nodes zero h l m = absurd (omega arith)
   between_nodes (suc t) zero l m = absurd (omega arith)
   between_nodes (suc t) (suc h) l m = refl
 
   -- to the root, but from the output node, it is 0
-  from_input : (t : ℕ) → (t ≡ output_name g → ⊥) → pos 0 ≡ least_between g t 0
+  pub from_input : (t : ℕ) → (t ≡ output_name g → ⊥) → pos 0 ≡ least_between g t 0
   from_input zero ne = refl
   from_input (suc t) ne = rw (ne_eqb (suc t) (output_name g) ne) refl
 
   -- from the output node to the root it is minus the latency
-  from_output : (t : ℕ) → 1 ≤ t → t ≡ output_name g → neg_ℤ (pos (latency_of_graph g)) ≡ least_between g t 0
+  pub from_output : (t : ℕ) → 1 ≤ t → t ≡ output_name g → neg_ℤ (pos (latency_of_graph g)) ≡ least_between g t 0
   from_output zero l e = absurd (omega arith)
   from_output (suc t) l e = rw (eq-eqb (suc t) (output_name g) e) refl
 

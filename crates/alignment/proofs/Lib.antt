@@ -10,3 +10,14 @@ pub mod NeedFacts
 pub mod NetworkFacts
 pub mod AlignFacts
 pub mod PlaceFacts
+pub mod NumberedLaws
+pub mod SortedArcLaws
+pub mod SolvableLaws
+pub mod NeedLaws
+pub mod ValueListFacts
+pub mod SharedPointFacts
+pub mod SharedArcFacts
+pub mod SharedSolutionFacts
+pub mod SharedNetworkFacts
+pub mod MirrorFacts
+pub mod SharedAlignFacts

@@ -193,6 +193,17 @@ leasts_within g bound latency each most =
     go true = ((omega (arith, ints), omega (arith, ints)), ((omega (arith, ints), omega (arith, ints)), tt))
     go false = ((omega (arith, ints), omega (arith, ints)), tt)
 
+-- a node's latency
+pub some_latency : (g : Graph) → IsSound g → (v : ℕ) → latency_at g v ≤ 2 ^ 20
+some_latency g sound v = go (node_named g v) refl
+  where
+    ranges : AllByRecursion IsInRange g.nodes
+    ranges = all_weaker (λ n. bad_member n ≡ None) IsInRange g.nodes in_range (recursion_from_All (λ n. bad_member n ≡ None) g.nodes sound.shaped.in_range)
+
+    go : (o : Option Node) → node_named g v ≡ o → or_zero latency_of o ≤ 2 ^ 20
+    go None e = omega arith
+    go (Some n) e = few_frames n.kind (find-all (λ m. m.uid.0 == v) IsInRange g.nodes n ranges e).0.1
+
 module _ (g : Graph) (points : List ℕ) (net : Network) (sound : IsSound g) (are : ArePoints g points) (is : IsNetworkOf g points net) where
   -- ---- walks
   -- the arc of a difference of the network
@@ -289,22 +300,11 @@ module _ (g : Graph) (points : List ℕ) (net : Network) (sound : IsSound g) (ar
       omega (arith, ints))
 
   -- ---- numbers
-  -- a node's latency
-  some_latency : (v : ℕ) → latency_at g v ≤ 2 ^ 20
-  some_latency v = go (node_named g v) refl
-    where
-      ranges : AllByRecursion IsInRange g.nodes
-      ranges = all_weaker (λ n. bad_member n ≡ None) IsInRange g.nodes in_range (recursion_from_All (λ n. bad_member n ≡ None) g.nodes sound.shaped.in_range)
-
-      go : (o : Option Node) → node_named g v ≡ o → or_zero latency_of o ≤ 2 ^ 20
-      go None e = omega arith
-      go (Some n) e = few_frames n.kind (find-all (λ m. m.uid.0 == v) IsInRange g.nodes n ranges e).0.1
-
   -- the least differences fit
   least_within : All (HasLeastWithin (2 ^ 30)) (network g (latency_of_graph g))
   least_within =
       All-from_recursion (HasLeastWithin (2 ^ 30)) (network g (latency_of_graph g))
-      (leasts_within g (2 ^ 30) (latency_of_graph g) (λ v. let l = some_latency v in omega arith) (let l = few_frames_late g sound in omega arith))
+      (leasts_within g (2 ^ 30) (latency_of_graph g) (λ v. let l = some_latency g sound v in omega arith) (let l = few_frames_late g sound in omega arith))
 
   -- there are at most as many live connections as connections
   few_live : length (live_connections g) ≤ 2 ^ 14

@@ -1,11 +1,11 @@
 -- Tight potentials of the network of a graph are an alignment of its latency; the earliest of them are the best one.
 use Rattle.std.proofs.Common.{◌≡◌, ℕ, zero, suc, ◌+◌, ◌<◌, ◌≤◌, ◌^◌, ℤ, pos, ◌+ℤ◌, ◌-ℤ◌, ◌≤ℤ◌, List, length, map, drop, get_or, slice_get, slice_index, refl, sym, ap, subst, ◌∙◌, arith, true, Some, inl, inr}
-use Rattle.std.specs.Prelude.{sum_by, AllPairs}
+use Rattle.std.specs.Prelude.{sum_by}
 use Rattle.std.specs.List.{All, Contains}
 use Rattle.std.proofs.lemmas.Int.{ints}
 use Rattle.std.proofs.lemmas.Grind.{get_or_after_one}
 use Rattle.std.proofs.lemmas.List.{length-drop, get_or-map, get_or_default}
-use Rattle.std.proofs.lemmas.List.Elements.{All-contains, All-map, All-from_recursion}
+use Rattle.std.proofs.lemmas.List.Elements.{All-contains, All-from_recursion}
 use Rattle.std.proofs.lemmas.List.Kept.{AllPairs-from_increasing}
 use Rattle.std.proofs.lemmas.Option.{slice_get-get_or}
 use Rattle.graph_model.specs.Graphs.{latency_at, output_name}
@@ -24,20 +24,48 @@ use Rattle.plan_model.specs.Duality.{rooted, IsTightAt}
 use Rattle.plan_model.specs.Flows.{IsPoint, network, arc_between, IsFlow}
 use Rattle.plan_model.specs.Networks.{Difference, least_or_zero}
 use Rattle.plan_model.specs.declared.alignment.At.{At}
+use Rattle.plan_model.specs.declared.alignment.LineAt.{LineAt}
 use Rattle.plan_model.proofs.DualityLaws.{Keeps, rooted_at, keeps_all, least_of_optima_law}
 use Rattle.graph_model.proofs.NodeFacts.{output_is_node}
 use Rattle.plan_model.proofs.CertifiedLaws.{sum_lines}
 use Rattle.plan_model.proofs.LatencyLaws.{few_frames_late}
+use Rattle.plan_model.proofs.NetworkLaws.{sum_by_map}
 use Rattle.plan_model.proofs.PlaceLaws.{has_item}
 use Rattle.plan_model.proofs.Saved.{Contains-from_map}
 use Rattle.shortest_paths.specs.Walks.{number_of, from_zero}
 use Rattle.alignment.specs.Networks.{ArePoints, AreNetworkArcs, number_in, named}
 use Rattle.alignment.specs.Links.{links_of, link_of}
-use Rattle.alignment.specs.Places.{ArePositions, IsTimely, places_of, line_of}
+use Rattle.alignment.specs.Places.{ArePositions, IsTimely, places_of, delay_of, line_of}
 use Rattle.alignment.specs.Carried.{carried_by}
-use Rattle.alignment.proofs.PlaceLists.{stands_at, number_at, zero_first, names_of, position_at, later_has, from_zero_is, entry_of, carried_has, carried_all, links_all, links_few, lines_same}
+use Rattle.alignment.proofs.PlaceLists.{stands_at, number_at, zero_first, names_of, later_position, later_has, from_zero_is, entry_of, carried_has, carried_all, links_all, links_few, lines_same}
 use Rattle.alignment.proofs.ValueFacts.{live_is_named, value_after, point_within, rooted_is, is_alignment, ends_at_latency}
 use Rattle.graph_model.proofs.LiveLaws.{ends_live}
+
+-- ---- the names of positions
+-- where the root is left out they are the live nodes
+pub live_nodes_are : (g : Graph) (points : List ℕ) → IsSound g → ArePoints g points → (potential : List ℤ) → length potential ≡ length points
+    → AreLiveNodes g (map (λ a. a.uid.0) (places_of (drop 1 points) (drop 1 potential)))
+live_nodes_are g points sound are potential each =
+    subst (AreLiveNodes g) (sym (names_of (drop 1 points) (drop 1 potential) (omega (arith, length-drop 1 points, length-drop 1 potential, each))))
+    (record {
+      ascending = λ k lt.
+          let a = get_or_after_one points k 0 in
+          let b = get_or_after_one points (k + 1) 0 in
+          let r = AllPairs-from_increasing points are.rising (1 + k) (1 + (k + 1)) 0 (omega arith) (omega (arith, length-drop 1 points)) in
+          omega arith;
+      each = λ k d lt. live_later k d lt;
+      all = λ v live. later_has points v (are.all v (inr live)) (λ same. let first = (zero_first points are.rising (are.all 0 (inl refl))).1 in let named = live_is_named g sound v live in omega arith);
+    })
+  where
+    live_later : (k d : ℕ) → k < length (drop 1 points) → IsLive g (get_or (drop 1 points) k d)
+    live_later k d lt =
+        let below : 1 + k < length points = omega (arith, length-drop 1 points) in
+        let name = get_or_after_one points k d in
+        let more = AllPairs-from_increasing points are.rising 0 (1 + k) d (omega arith) below in
+        elim (are.each (1 + k) d below) [
+          | inl none ↦ absurd (omega arith)
+          | inr live ↦ subst (IsLive g) (sym name) live
+        ]
 
 -- ---- tight potentials
 module _ (g : Graph) (points : List ℕ) (arcs : List Arc) (flow : List ℕ) (potential : List ℤ) (sound : IsSound g) (are : ArePoints g points)
@@ -127,26 +155,9 @@ module _ (g : Graph) (points : List ℕ) (arcs : List Arc) (flow : List ℕ) (po
       record { tail = number_below c.src.0 (inr ends.0); head = number_below c.dst.0 (inr ends.1); after = after c kept }))
 
   -- ---- positions
-  -- without the root there are as many names as potentials
-  fewer : length (drop 1 points) ≡ length (drop 1 potential)
-  fewer = omega (arith, length-drop 1 points, length-drop 1 potential, each)
-
-  -- and the names rise
-  later_rise : AllPairs (λ u v. u < v) (drop 1 points)
-  later_rise = λ i j d lt l.
-      let a = get_or_after_one points i d in
-      let b = get_or_after_one points j d in
-      let r = AllPairs-from_increasing points are.rising (1 + i) (1 + j) d (omega arith) (omega (arith, length-drop 1 points)) in
-      omega arith
-
   -- the position of the name at a place is the potential there
   pub position_is : (k : ℕ) → 0 < k → k < length points → p (slice_index points k) ≡ from_zero (number_of potential k)
-  position_is zero some lt = absurd (omega arith)
-  position_is (suc k) some lt =
-      let next : 1 + k ≡ suc k = omega arith in
-      let name : slice_index (drop 1 points) k ≡ slice_index points (suc k) = get_or_after_one points k 0 ∙ ap (slice_index points) next in
-      let number : number_of (drop 1 potential) k ≡ number_of potential (suc k) = get_or_after_one potential k (pos 0) ∙ ap (number_of potential) next in
-      ap p (sym name) ∙ position_at (drop 1 points) (drop 1 potential) later_rise fewer k (omega (arith, length-drop 1 points)) ∙ ap from_zero number
+  position_is k some lt = later_position points potential are.rising each k some lt
 
   -- the position of a live node is its potential
   position_of : (v : ℕ) → IsLive g v → pos (p v) ≡ value v
@@ -163,23 +174,7 @@ module _ (g : Graph) (points : List ℕ) (arcs : List Arc) (flow : List ℕ) (po
 
   -- the names of the positions are the live nodes
   pub nodes_are : AreLiveNodes g (map (λ a. a.uid.0) at)
-  nodes_are =
-      subst (AreLiveNodes g) (sym (names_of (drop 1 points) (drop 1 potential) fewer))
-      (record {
-        ascending = λ k lt. later_rise k (k + 1) 0 (omega arith) lt;
-        each = λ k d lt. live_later k d lt;
-        all = λ v live. later_has points v (are.all v (inr live)) (λ same. let first = zero_there.1 in let named = live_is_named g sound v live in omega arith);
-      })
-    where
-      live_later : (k d : ℕ) → k < length (drop 1 points) → IsLive g (get_or (drop 1 points) k d)
-      live_later k d lt =
-          let below : 1 + k < length points = omega (arith, length-drop 1 points) in
-          let name = get_or_after_one points k d in
-          let more = AllPairs-from_increasing points are.rising 0 (1 + k) d (omega arith) below in
-          elim (are.each (1 + k) d below) [
-            | inl none ↦ absurd (omega arith)
-            | inr live ↦ subst (IsLive g) (sym name) live
-          ]
+  nodes_are = live_nodes_are g points sound are potential each
 
   -- ---- the alignment
   -- the positions are an alignment
@@ -207,22 +202,8 @@ module _ (g : Graph) (points : List ℕ) (arcs : List Arc) (flow : List ℕ) (po
   lines_are = lines_same g points potential p 0 g.connections delay_is
 
   -- and their sum is the total
-  pub total_is : sum_by (λ l. l.delay) (map (line_of potential) (links_of g points)) ≡ total g p
-  total_is = ap (sum_by (λ l. l.delay)) lines_are ∙ sum_lines g p 0 g.connections
-
-  -- no delay is beyond 2 ^ 26
-  pub short : All (λ l. l.delay ≤ 2 ^ 26) (map (line_of potential) (links_of g points))
-  short =
-      All-map (λ l. l.delay ≤ 2 ^ 26) (line_of potential) (links_of g points)
-      (All-from_recursion (λ l. (line_of potential l).delay ≤ 2 ^ 26) (links_of g points)
-      (links_all (λ l. (line_of potential l).delay ≤ 2 ^ 26) g points 0 g.connections
-      (λ j c has is.
-      let same = delay_is j c has is in
-      let dst = (ends_live g sound c (live_there c has is)).1 in
-      let t = position_of c.dst.0 dst in
-      let top = (within c.dst.0 (inr dst)).1 in
-      let few = few_frames_late g sound in
-      omega (arith, ints))))
+  pub total_is : sum_by (delay_of potential) (links_of g points) ≡ total g p
+  total_is = sym (sum_by_map (λ (l : LineAt). l.delay) (line_of potential) (links_of g points)) ∙ ap (sum_by (λ (l : LineAt). l.delay)) lines_are ∙ sum_lines g p 0 g.connections
 
   -- there are at most 2 ^ 13 lines
   pub few_lines : length (links_of g points) ≤ 2 ^ 13

@@ -75,6 +75,15 @@ position_at (v ∷ vs) (x ∷ xs) rising e (suc k) lt =
     let differs : (v == slice_index vs k) ≡ false = ne_eqb _ _ (λ same. let less = rising 0 (suc k) 0 (omega arith) lt in omega arith) in
     rw differs (position_at vs xs (λ i j d less l. rising (suc i) (suc j) d (omega arith) (omega arith)) (omega arith) k (omega arith))
 
+-- the name at a place stands at the potential there, where the root, the first, is left out
+pub later_position : (points : List ℕ) (potential : List ℤ) → IsStrictlyIncreasing points → length potential ≡ length points → (k : ℕ) → 0 < k → k < length points
+    → position_in (places_of (drop 1 points) (drop 1 potential)) (slice_index points k) ≡ from_zero (number_of potential k)
+later_position points potential rising each zero some lt = absurd (omega arith)
+later_position [] potential rising each (suc k) some lt = absurd (omega arith)
+later_position (v ∷ points) [] rising each (suc k) some lt = absurd (omega arith)
+later_position (v ∷ points) (x ∷ potential) rising each (suc k) some lt =
+    position_at points potential (λ i j d less l. AllPairs-from_increasing (v ∷ points) rising (suc i) (suc j) d (omega arith) (omega arith)) (omega arith) k (omega arith)
+
 -- a number from 0 on is itself
 pub from_zero_is : (z : ℤ) → pos 0 ≤ℤ z → pos (from_zero z) ≡ z
 from_zero_is (pos n) l = refl

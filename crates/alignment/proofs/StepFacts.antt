@@ -12,8 +12,7 @@ use Rattle.alignment.specs.Places.{places_of}
 use Rattle.shortest_paths.specs.Walks.{number_of, from_zero}
 use Rattle.std.proofs.lemmas.List.{take_more, length-take, append_assoc, append-nil}
 use Rattle.std.proofs.lemmas.Bool.{lt-ltb}
-use Rattle.plan_model.specs.declared.flow.Units.{Units}
-use Rattle.alignment.specs.Carried.{carried_by}
+use Rattle.alignment.specs.Numbered.{name_by, entries_by}
 
 -- one more place
 pub places-push : (vs : List ℕ) (xs : List ℤ) (v : ℕ) (x : ℤ) → length vs ≡ length xs
@@ -33,17 +32,18 @@ weighted-push number (b ∷ arcs) (m ∷ flow) a n same =
     let rest = weighted-push number arcs flow a n (omega arith) in omega (arith, ints)
 
 -- one more arc and its units
-pub carried-push : (points : List ℕ) (arcs : List Arc) (flow : List ℕ) (a : Arc) (n : ℕ) → length flow ≡ length arcs
-    → carried_by points (arcs ++ a ∷ []) (flow ++ n ∷ []) ≡ carried_by points arcs flow ++ carried_by points (a ∷ []) (n ∷ [])
-carried-push points [] [] a n same = refl
-carried-push points [] (m ∷ flow) a n same = absurd (omega arith)
-carried-push points (b ∷ arcs) [] a n same = absurd (omega arith)
-carried-push points (b ∷ arcs) (m ∷ flow) a n same =
-    elim (nat_lt 0 m) as (λ t. cond t (record { tail = slice_index points b.tail; head = slice_index points b.head; units = m } ∷ carried_by points (arcs ++ a ∷ []) (flow ++ n ∷ [])) (carried_by points (arcs ++ a ∷ []) (flow ++ n ∷ []))
-    ≡ cond t (record { tail = slice_index points b.tail; head = slice_index points b.head; units = m } ∷ carried_by points arcs flow) (carried_by points arcs flow) ++ carried_by points (a ∷ []) (n ∷ [])) [
-      | true ↦ ap (λ zs. record { tail = slice_index points b.tail; head = slice_index points b.head; units = m } ∷ zs) (carried-push points arcs flow a n (omega arith))
-      | false ↦ carried-push points arcs flow a n (omega arith)
-    ]
+pub entries-push : {P E : Type 0} (make : P → P → ℕ → E) (root : P) (names : List P) (arcs : List Arc) (flow : List ℕ) (a : Arc) (n : ℕ) → length flow ≡ length arcs
+    → entries_by make root names (arcs ++ a ∷ []) (flow ++ n ∷ []) ≡ entries_by make root names arcs flow ++ entries_by make root names (a ∷ []) (n ∷ [])
+entries-push make root names [] [] a n same = refl
+entries-push make root names [] (m ∷ flow) a n same = absurd (omega arith)
+entries-push make root names (b ∷ arcs) [] a n same = absurd (omega arith)
+entries-push make root names (b ∷ arcs) (m ∷ flow) a n same = go (nat_lt 0 m) (entries-push make root names arcs flow a n (omega arith))
+  where
+    go : (t : Bool) → entries_by make root names (arcs ++ a ∷ []) (flow ++ n ∷ []) ≡ entries_by make root names arcs flow ++ entries_by make root names (a ∷ []) (n ∷ [])
+        → cond t (make (name_by root names b.tail) (name_by root names b.head) m ∷ entries_by make root names (arcs ++ a ∷ []) (flow ++ n ∷ [])) (entries_by make root names (arcs ++ a ∷ []) (flow ++ n ∷ []))
+        ≡ cond t (make (name_by root names b.tail) (name_by root names b.head) m ∷ entries_by make root names arcs flow) (entries_by make root names arcs flow) ++ entries_by make root names (a ∷ []) (n ∷ [])
+    go true rest = ap (λ zs. make (name_by root names b.tail) (name_by root names b.head) m ∷ zs) rest
+    go false rest = rest
 
 -- the places so far, with that of one more point
 pub places-more : (points : List ℕ) (potentials : List ℤ) (k : ℕ) (placed : List At) → length potentials ≡ length points → 1 ≤ k → k < length points
@@ -74,14 +74,6 @@ weighted-more number arcs flow k d each lt =
     rw (take_more arcs k d lt, take_more flow k 0 units)
     (weighted-push number (take k arcs) (take k flow) (get_or arcs k d) (get_or flow k 0) (omega (arith, length-take k arcs, length-take k flow)))
 
--- what is carried so far, with one more arc
-pub carried-more : (points : List ℕ) (arcs : List Arc) (flow : List ℕ) (k : ℕ) (d : Arc) → length flow ≡ length arcs → k < length arcs
-    → carried_by points (take (k + 1) arcs) (take (k + 1) flow) ≡ carried_by points (take k arcs) (take k flow) ++ carried_by points (get_or arcs k d ∷ []) (get_or flow k 0 ∷ [])
-carried-more points arcs flow k d each lt =
-    let units : k < length flow = omega arith in
-    rw (take_more arcs k d lt, take_more flow k 0 units)
-    (carried-push points (take k arcs) (take k flow) (get_or arcs k d) (get_or flow k 0) (omega (arith, length-take k arcs, length-take k flow)))
-
 -- what stands between the end of a source and its destination, in frames
 pub in_frames : (t h : ℤ) (l : ℕ) → pos 0 ≤ℤ t → pos 0 ≤ℤ h → (t +ℤ pos l) ≤ℤ h
     → (from_zero t + l ≤ from_zero h) × (from_zero (h -ℤ (t +ℤ pos l)) ≡ from_zero h - (from_zero t + l))
@@ -105,29 +97,33 @@ from_root-more old arcs k some is =
     ap (λ xs. xs ++ arc_from_root k ∷ []) is ∙ append_assoc old (map arc_from_root (range_with_len 1 (k - 1))) (arc_from_root k ∷ [])
     ∙ ap (λ xs. old ++ xs) (sym more) ∙ ap (λ n. old ++ map arc_from_root (range_with_len 1 n)) (sym next)
 
--- an arc with some units carries them, and one without any carries nothing
-carries : (points : List ℕ) (a : Arc) (n : ℕ) → 0 < n → carried_by points (a ∷ []) (n ∷ []) ≡ record { tail = slice_index points a.tail; head = slice_index points a.head; units = n } ∷ []
-carries points a n some = ap (λ b. cond b (record { tail = slice_index points a.tail; head = slice_index points a.head; units = n } ∷ []) []) (lt-ltb 0 n some)
+-- an arc with some units has an entry, and one without any has none
+module _ {P E : Type 0} (make : P → P → ℕ → E) (root : P) (names : List P) where
+  has_entry : (a : Arc) (n : ℕ) → 0 < n → entries_by make root names (a ∷ []) (n ∷ []) ≡ make (name_by root names a.tail) (name_by root names a.head) n ∷ []
+  has_entry a n some = ap (λ b. cond b (make (name_by root names a.tail) (name_by root names a.head) n ∷ []) []) (lt-ltb 0 n some)
 
-carries_none : (points : List ℕ) (a : Arc) (n : ℕ) → n ≤ 0 → carried_by points (a ∷ []) (n ∷ []) ≡ []
-carries_none points a zero none = refl
-carries_none points a (suc n) none = absurd (omega arith)
+  has_none : (a : Arc) (n : ℕ) → n ≤ 0 → entries_by make root names (a ∷ []) (n ∷ []) ≡ []
+  has_none a zero none = refl
+  has_none a (suc n) none = absurd (omega arith)
 
-module _ (points : List ℕ) (arcs : List Arc) (flow : List ℕ) (k : ℕ) (each : length flow ≡ length arcs) (lt : k < length arcs) (so_far : List Units)
-    (is : so_far ≡ carried_by points (take k arcs) (take k flow)) where
-  abbrev arc : Arc
-  arc = get_or arcs k (record { tail = 0; head = 0; least = pos 0 })
+  module _ (arcs : List Arc) (flow : List ℕ) (k : ℕ) (each : length flow ≡ length arcs) (lt : k < length arcs) (so_far : List E)
+      (is : so_far ≡ entries_by make root names (take k arcs) (take k flow)) where
+    abbrev arc : Arc
+    arc = get_or arcs k (record { tail = 0; head = 0; least = pos 0 })
 
-  -- what is carried so far, with an arc that carries some
-  pub carried-some : (made : List Units) → 0 < get_or flow k 0
-      → made ≡ so_far ++ record { tail = slice_index points arc.tail; head = slice_index points arc.head; units = get_or flow k 0 } ∷ []
-      → made ≡ carried_by points (take (k + 1) arcs) (take (k + 1) flow)
-  carried-some made some is_made =
-      is_made ∙ ap (λ xs. so_far ++ xs) (sym (carries points arc (get_or flow k 0) some)) ∙ ap (λ xs. xs ++ carried_by points (arc ∷ []) (get_or flow k 0 ∷ [])) is
-      ∙ sym (carried-more points arcs flow k (record { tail = 0; head = 0; least = pos 0 }) each lt)
+    -- the entries so far, with that of one more arc
+    entries-more : entries_by make root names (take (k + 1) arcs) (take (k + 1) flow) ≡ so_far ++ entries_by make root names (arc ∷ []) (get_or flow k 0 ∷ [])
+    entries-more =
+        let units : k < length flow = omega arith in
+        rw (take_more arcs k (record { tail = 0; head = 0; least = pos 0 }) lt, take_more flow k 0 units)
+        (entries-push make root names (take k arcs) (take k flow) arc (get_or flow k 0) (omega (arith, length-take k arcs, length-take k flow))
+        ∙ ap (λ xs. xs ++ entries_by make root names (arc ∷ []) (get_or flow k 0 ∷ [])) (sym is))
 
-  -- and with one that carries none
-  pub carried-none : get_or flow k 0 ≤ 0 → so_far ≡ carried_by points (take (k + 1) arcs) (take (k + 1) flow)
-  carried-none none =
-      is ∙ sym (append-nil (carried_by points (take k arcs) (take k flow))) ∙ ap (λ xs. carried_by points (take k arcs) (take k flow) ++ xs) (sym (carries_none points arc (get_or flow k 0) none))
-      ∙ sym (carried-more points arcs flow k (record { tail = 0; head = 0; least = pos 0 }) each lt)
+    -- with an arc that carries some
+    pub entries-some : (made : List E) → 0 < get_or flow k 0 → made ≡ so_far ++ make (name_by root names arc.tail) (name_by root names arc.head) (get_or flow k 0) ∷ []
+        → made ≡ entries_by make root names (take (k + 1) arcs) (take (k + 1) flow)
+    entries-some made some is_made = is_made ∙ ap (λ xs. so_far ++ xs) (sym (has_entry arc (get_or flow k 0) some)) ∙ sym entries-more
+
+    -- and with one that carries none
+    pub entries-none : get_or flow k 0 ≤ 0 → so_far ≡ entries_by make root names (take (k + 1) arcs) (take (k + 1) flow)
+    entries-none none = sym (append-nil so_far) ∙ ap (λ xs. so_far ++ xs) (sym (has_none arc (get_or flow k 0) none)) ∙ sym entries-more

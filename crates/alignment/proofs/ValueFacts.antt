@@ -33,6 +33,10 @@ module _ (g : Graph) (sound : IsSound g) where
       (All-map (λ u. 1 ≤ u) (λ (n : Node). n.uid.0) g.nodes (All-weaker (λ n. bad_member n ≡ None) (λ n. 1 ≤ n.uid.0) (λ n e. (in_range n e).0.0) g.nodes sound.shaped.in_range))
       (listed g v live)
 
+  -- and it is listed among the live nodes
+  pub live_listed : (v : ℕ) → IsLive g v → Contains (live_nodes g) v
+  live_listed v live = filter_has (is_live g) (map (λ n. n.uid.0) g.nodes) v (listed g v live) (live_test g sound v live)
+
   -- what does not fall along live connections is at most its value at the end of a path
   highest_last : (f : ℕ → ℤ) → ((c : Connection) → Contains (live_connections g) c → f c.src.0 ≤ℤ f c.dst.0)
       → (v : ℕ) (us : List ℕ) → IsPathTo g v us → is_live g v ≡ true → (w : ℕ) → Contains (v ∷ us) w → f w ≤ℤ f v
@@ -60,7 +64,7 @@ module _ (g : Graph) (sound : IsSound g) where
   from_root_there v live =
       Contains-append_right (map (along g) (live_connections g)) _ (from_root v)
       (Contains-append_left (map from_root (live_nodes g)) _ (from_root v)
-      (Contains-map from_root (live_nodes g) v (filter_has (is_live g) (map (λ n. n.uid.0) g.nodes) v (listed g v live) (live_test g sound v live))))
+      (Contains-map from_root (live_nodes g) v (live_listed v live)))
 
   -- those to the root, from a live input node and from the output node
   to_root_there : (d : Difference ℕ) → Contains (to_root g (latency_of_graph g)) d → Contains (network g (latency_of_graph g)) d

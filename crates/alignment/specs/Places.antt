@@ -22,7 +22,10 @@ pub record IsTimely (potentials : List ℤ) (l : Link) : Type 0 where
   pub head : l.head < length potentials
   pub after : (number_of potentials l.tail +ℤ pos l.latency) ≤ℤ number_of potentials l.head
 
--- the delay line of a link: what is left between
+-- what a link holds back: what is left between
+abbrev pub delay_of : List ℤ → Link → ℕ
+delay_of potentials l = from_zero (number_of potentials l.head -ℤ (number_of potentials l.tail +ℤ pos l.latency))
+
+-- the delay line of the link of a connection
 abbrev pub line_of : List ℤ → Link → LineAt
-line_of potentials l =
-    record { connection = l.connection; delay = from_zero (number_of potentials l.head -ℤ (number_of potentials l.tail +ℤ pos l.latency)) }
+line_of potentials l = record { connection = l.index; delay = delay_of potentials l }

@@ -1,12 +1,15 @@
 //! The alignment of a graph's paths with the fewest delay samples at the least latency.
 //!
-//! A node's position is the time, in frames, at which its input of time 0 is taken; a connection holds back what is left
-//! between the end of its source and its destination. [`align`] puts the live nodes where the delays sum up to the least.
-//! The dual of that is a flow of least cost in the network of difference constraints (Ahuja, Magnanti and Orlin, Network
-//! Flows, chapter 9): its points are the live nodes and a root, its potentials the positions.
+//! A node's position is the time, in frames, at which its input of time 0 is taken; a connection holds back what is
+//! left between the end of its source and its destination. [`align`] puts the live nodes where the delays sum up to
+//! the least, and [`align_shared`] where the lines of the values do, each of which the connections that read it
+//! share. The dual of that is a flow of least cost in the network of difference constraints (Ahuja, Magnanti and
+//! Orlin, Network Flows, chapter 9): its points are the live nodes and a root, its potentials the positions. Where
+//! lines are shared each value has a point more, its mirror, which stands no earlier than any node that reads the
+//! value.
 //!
-//! It promises that no alignment has less latency, that none of that latency has a smaller total, and that of those with
-//! that total none has an earlier position; and it gives a flow whose bound is the total, which shows the second.
+//! Each promises that no alignment has less latency, that none of that latency has a smaller total, and that of those
+//! with that total none has an earlier position; and it gives a flow whose bound is the total, which shows the second.
 //!
 //! It stands on `connections` for sound graphs, on `plan_model` for what an alignment and its flow are and for the laws
 //! of their duality, and on `min_cost_flow` for flow and potentials.
@@ -19,18 +22,23 @@ ghost use Rattle.plan_model.specs.Results.{IsAligned};
 
 mod carried;
 mod links;
+mod mirrors;
 mod needs;
 mod network;
 mod placed;
 mod points;
+mod shared;
+mod shared_network;
 #[cfg(test)]
 mod tests;
+mod values;
 
 use crate::carried::{bound, carried};
 use crate::links::links;
 use crate::network::network;
 use crate::placed::{lines, places, total};
 use crate::points::points;
+pub use crate::shared::align_shared;
 use connections::Checked;
 use graph_model::List;
 use min_cost_flow::solve;
@@ -68,11 +76,10 @@ pub fn align(alloc: Global, graph: &Checked) -> Result<Aligned, AllocError>
     let potentials = solved.potential.as_slice();
     let arcs = network.arcs.as_slice();
     let flow = solved.flow.as_slice();
-    let lines = lines(alloc, &links, potentials)?;
     Ok(Aligned {
         at: places(alloc, &points, potentials)?,
-        total: total(lines.as_slice()),
-        lines,
+        lines: lines(alloc, &links, potentials)?,
+        total: total(&links, potentials),
         arcs: carried(alloc, &points, arcs, flow)?,
         bound: bound(arcs, flow, &links) as u64,
     })

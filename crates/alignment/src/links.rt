@@ -10,21 +10,21 @@ use connections::Checked;
 use graph_model::{Graph, Uid, latency};
 use std::alloc::{AllocError, Global};
 
-/// A live connection.
+/// What holds samples back between two points: a live connection, or where readers share lines a value.
 #[derive(Clone, Copy)]
 pub(crate) struct Link {
-    /// Its index in the graph's list of connections.
-    pub(crate) connection: u32,
+    /// Its index in the graph's list of connections, or among the values.
+    pub(crate) index: u32,
     /// The point of its source.
     pub(crate) tail: u32,
-    /// The point of its destination.
+    /// The point of its destination, or the mirror of the value.
     pub(crate) head: u32,
     /// The latency of its source, in frames.
     pub(crate) latency: u32,
 }
 
 /// The latency of a node, in frames.
-fn latency_of(graph: &Graph, uid: Uid) -> u32
+pub(crate) fn latency_of(graph: &Graph, uid: Uid) -> u32
     requires { IsNode graph.now uid.0 }
     ensures { result ≡ latency_at graph.now uid.0 }
 {
@@ -44,7 +44,7 @@ pub(crate) fn links(alloc: Global, graph: &Checked, points: &[u32]) -> Result<Ve
         };
         let tail = point_of(points, connection.src.0).unwrap();
         links.push(Link {
-            connection: index as u32,
+            index: index as u32,
             tail,
             head,
             latency: latency_of(graph.graph(), connection.src),

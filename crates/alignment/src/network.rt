@@ -15,7 +15,7 @@ use min_cost_flow::{Arc, Network};
 use std::alloc::{AllocError, Global};
 
 /// An arc along each link: its destination stands no earlier than its source and the latency of that.
-fn add_links(arcs: &mut Vec<Arc>, links: &[Link]) -> Result<(), AllocError>
+pub(crate) fn add_links(arcs: &mut Vec<Arc>, links: &[Link]) -> Result<(), AllocError>
     ensures { OnOk result (arcs.new.items ≡ arcs.old.items ++ map arc_along links.now) }
 {
     for link in links {
@@ -29,7 +29,7 @@ fn add_links(arcs: &mut Vec<Arc>, links: &[Link]) -> Result<(), AllocError>
 }
 
 /// An arc from the root to each live node: no position is below 0.
-fn add_from_root(arcs: &mut Vec<Arc>, points: usize) -> Result<(), AllocError>
+pub(crate) fn add_from_root(arcs: &mut Vec<Arc>, points: usize) -> Result<(), AllocError>
     requires some { 0 < points }
     requires few { points ≤ 2 ^ 14 }
     ensures { OnOk result (arcs.new.items ≡ arcs.old.items ++ map arc_from_root (range_with_len 1 (points - 1))) }
@@ -46,7 +46,11 @@ fn add_from_root(arcs: &mut Vec<Arc>, points: usize) -> Result<(), AllocError>
 
 /// An arc to the root from a live input node, which keeps it at 0, and one from the output node, which keeps it at the
 /// graph's latency.
-fn add_to_root(arcs: &mut Vec<Arc>, graph: &Checked, points: &[u32]) -> Result<(), AllocError>
+pub(crate) fn add_to_root(
+    arcs: &mut Vec<Arc>,
+    graph: &Checked,
+    points: &[u32],
+) -> Result<(), AllocError>
     requires sound { IsSound graph.now }
     requires points { ArePoints graph.now points.now }
     ensures { OnOk result (arcs.new.items ≡ arcs.old.items ++ arcs_to_root graph.now points.now) }

@@ -3,7 +3,7 @@
 ghost use Rattle.std.specs.Prelude.{◌≡◌, ◌<◌, ◌≤◌, ◌^◌, drop, length, map, sum_by, IfOk};
 ghost use Rattle.std.specs.List.{All};
 ghost use Rattle.shortest_paths.specs.Walks.{number_of, from_zero};
-ghost use Rattle.alignment.specs.Places.{ArePositions, IsTimely, places_of, line_of};
+ghost use Rattle.alignment.specs.Places.{ArePositions, IsTimely, places_of, delay_of, line_of};
 
 use crate::links::Link;
 use graph_model::{List, Uid};
@@ -40,18 +40,16 @@ pub(crate) fn places(
     Ok(places)
 }
 
-/// The delay line of a link: what is left between the end of its source and its destination.
-fn line(link: &Link, potentials: &[i64]) -> LineAt
+/// What a link holds back, in frames: what is left between the end of its source and its destination.
+pub(crate) fn delay(link: &Link, potentials: &[i64]) -> u64
     requires positions { ArePositions potentials.now }
     requires timely { IsTimely potentials.now link.now }
-    ensures { result ≡ line_of potentials.now link.now }
+    ensures value { result ≡ delay_of potentials.now link.now }
+    ensures small { result ≤ 2 ^ 26 }
 {
     let ready = position(potentials, link.head as usize);
     let early = position(potentials, link.tail as usize) + link.latency as u64;
-    LineAt {
-        connection: link.connection,
-        delay: ready - early,
-    }
+    ready - early
 }
 
 /// The delay lines of the links, in their order.
@@ -66,20 +64,24 @@ pub(crate) fn lines(
 {
     let mut lines = List::new(alloc);
     for link in links {
-        lines.push(line(link, potentials))?;
+        lines.push(LineAt {
+            connection: link.index,
+            delay: delay(link, potentials),
+        })?;
     }
     Ok(lines)
 }
 
-/// The sum of the delays.
-pub(crate) fn total(lines: &[LineAt]) -> u64
-    requires few { length lines.now ≤ 2 ^ 13 }
-    requires short { All (λ l. l.delay ≤ 2 ^ 26) lines.now }
-    ensures { result ≡ sum_by (λ l. l.delay) lines.now }
+/// The sum of what the links hold back, in frames.
+pub(crate) fn total(links: &[Link], potentials: &[i64]) -> u64
+    requires few { length links.now ≤ 2 ^ 13 }
+    requires positions { ArePositions potentials.now }
+    requires timely { All (IsTimely potentials.now) links.now }
+    ensures { result ≡ sum_by (delay_of potentials.now) links.now }
 {
     let mut total = 0;
-    for line in lines {
-        total += line.delay;
+    for link in links {
+        total += delay(link, potentials);
     }
     total
 }

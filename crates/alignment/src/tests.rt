@@ -1,9 +1,12 @@
 //! Worked examples, whose values come from outside, and a large graph.
 
-use crate::{Aligned, align};
+ghost use Rattle.std.specs.Prelude.{IfOk};
+ghost use Rattle.graph_model.specs.Sound.{Fits};
+
+use crate::{Aligned, align, align_shared};
 use connections::check;
-use graph_model::{Connection, Node, Uid};
-use plan_model::{At, LineAt};
+use graph_model::{Connection, Graph, List, Node, Uid};
+use plan_model::{AlignedShared, At, LineAt};
 use std::alloc::{AllocError, Global};
 use std::test::Fail;
 use test_graphs::{fan_out, gain, graph_of, input, insert, joined, joined_at, mixer, output};
@@ -175,5 +178,79 @@ fn a_large_graph_meets_its_bound(rt: HostRuntime) -> Result<(), Fail> {
     assert_eq!(rt; delays.fold(0, u64::wrapping_add), aligned.total);
     let uids = aligned.at.as_slice().iter().map(|at| at.uid.0);
     assert!(rt; uids.eq(1..513));
+    Ok(())
+}
+
+/// Three gains beside an insert of 5, all of one channel.
+fn fan(alloc: Global) -> Result<Graph, AllocError>
+    ensures { IfOk result Fits }
+{
+    let nodes = vec![in alloc;
+        input(1, 1),
+        output(2, 1),
+        gain(3, 65536),
+        gain(4, 65536),
+        gain(5, 65536),
+        insert(6, 5),
+    ]?;
+    let ways = [
+        joined(1, 3),
+        joined(1, 4),
+        joined(1, 5),
+        joined(1, 6),
+        joined(3, 2),
+        joined(4, 2),
+        joined(5, 2),
+        joined(6, 2),
+    ];
+    graph_of(alloc, nodes, &ways)
+}
+
+/// The alignment of a graph with a line for each value.
+fn shared_of(alloc: Global, graph: Graph) -> Result<AlignedShared, Fail>
+    requires { Fits graph }
+{
+    let checked = check(alloc, graph)?;
+    Ok(align_shared(alloc, &checked)?)
+}
+
+/// Its total and its bound, the positions of the nodes, and the lines of the values.
+fn numbers_in(alloc: Global, shared: &AlignedShared) -> Result<List<u64>, AllocError> {
+    let mut numbers = List::from_slice(alloc, &[shared.total, shared.bound])?;
+    for place in shared.at.as_slice() {
+        numbers.push(place.at)?;
+    }
+    for line in shared.lines.as_slice() {
+        numbers.push(line.delay)?;
+    }
+    Ok(numbers)
+}
+
+/// The same of a graph.
+fn shared_numbers(alloc: Global, graph: Graph) -> Result<List<u64>, Fail>
+    requires { Fits graph }
+{
+    let shared = shared_of(alloc, graph)?;
+    Ok(numbers_in(alloc, &shared)?)
+}
+
+/// The gains wait behind one line; with a line for each connection, three lines are as long.
+#[test]
+fn three_readers_wait_behind_one_line(rt: HostRuntime) -> Result<(), Fail> {
+    let alloc = rt.alloc();
+    let fan = shared_numbers(alloc, fan(alloc)?)?;
+    assert_eq!(rt;
+        fan.as_slice(),
+        [5, 5, 0, 5, 5, 5, 5, 0, 5, 0, 0, 0, 0].as_slice()
+    );
+    Ok(())
+}
+
+/// A gain whose readers share a line need not wait: its value is read three times late, by one line.
+#[test]
+fn a_gain_whose_readers_share_a_line_need_not_wait(rt: HostRuntime) -> Result<(), Fail> {
+    let alloc = rt.alloc();
+    let fan_out = shared_numbers(alloc, fan_out(alloc)?)?;
+    assert_eq!(rt; fan_out.as_slice(), [5, 5, 0, 5, 0, 0, 0, 0, 5].as_slice());
     Ok(())
 }

@@ -12,9 +12,9 @@ use Rattle.command_words.specs.declared.render.RenderRequest.{RenderRequest as S
 use Rattle.command_words.specs.declared.fault.WordsFault.{WordsFault}
 use Rattle.command_words.specs.declared.fault.WordsFault.TheVariants.{NoRequest}
 
--- The names of a graph, of a file to read and of a file to write; the lengths of the blocks, which are repeated in turn;
--- how many frames of silence come after the input; the size of the samples that are written, if it is not that of the
--- input; whether the latency is left out; and whether the nodes are scheduled by waves.
+-- The names of a graph, of a file to read and of a file to write; the lengths of the blocks, which are repeated in
+-- turn; how many frames of silence come after the input; the size of the samples that are written, if it is not that
+-- of the input; whether the latency is left out; and whether the nodes are scheduled by waves.
 pub record RenderRequest : Type 0 where
   pub graph : List ℕ
   pub input : List ℕ

@@ -10,8 +10,8 @@
 //! what clap reads of the words by such a record is the function that the port of clap publishes. The numbers of a
 //! request are within their ranges.
 //!
-//! It stands on `clap` for the words, `wav_pcm` for the sizes of samples and `graph_model` for lists and refusals. It is
-//! a crate of its own since clap's statements are slow to check.
+//! It stands on `clap` for the words, `wav_pcm` for the sizes of samples and `graph_model` for lists and refusals. It
+//! is a crate of its own since clap's statements are slow to check.
 #![tactic(auto)]
 
 mod check;

@@ -1,5 +1,5 @@
 -- The two ends of a sound graph: their places, and their 1 to 32 channels.
-use Rattle.std.proofs.Common.{◌≡◌, ℕ, ◌<◌, ◌≤◌, List, length, get_or, Bool, true, Some, refl, sym, ap, ◌∙◌, subst, arith}
+use Rattle.std.proofs.Common.{◌≡◌, ℕ, ◌<◌, ◌≤◌, List, length, get_or, Bool, true, Some, sym, ap, ◌∙◌, subst, arith}
 use Rattle.std.specs.List.{position, find}
 use Rattle.std.specs.Option.{IsSome, is_some}
 use Rattle.std.proofs.lemmas.Bool.{false≢true}

@@ -1,5 +1,5 @@
 -- First faults of small graphs, and false ones.
-use Rattle.std.proofs.Common.{◌≡◌, ℕ, zero, suc, Bool, ◌≤◌, List, [], ◌∷◌, length, refl, sym, ◌∙◌, ap, arith, pos, None, inl, inr, true, not, ◌==◌, ◌&&◌}
+use Rattle.std.proofs.Common.{◌≡◌, ℕ, zero, suc, Bool, List, [], ◌∷◌, refl, sym, ◌∙◌, ap, arith, pos, None, inl, inr, true, not, ◌==◌, ◌&&◌}
 use Rattle.std.specs.List.{AllByRecursion, Contains, list_all}
 use Rattle.std.specs.Prelude.{◌≢◌}
 use Rattle.std.proofs.lemmas.List.Kept.{AllPairs-cons}

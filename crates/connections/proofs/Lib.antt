@@ -1,5 +1,6 @@
 pub mod NodeFacts
 pub mod JointFacts
+pub mod PlaceFacts
 pub mod LimitFacts
 pub mod FaultFacts
 pub mod FirstFaults

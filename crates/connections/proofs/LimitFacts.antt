@@ -1,13 +1,13 @@
 -- The latency and the live connections of a graph, by the indexes of nodes.
-use Rattle.std.proofs.Common.{◌≡◌, ℕ, ◌<◌, ◌≤◌, List, length, map, get_or, refl, sym, ◌∙◌, ap, arith, Some}
+use Rattle.std.proofs.Common.{◌≡◌, ℕ, List, map, get_or, refl, ◌∙◌, ap, Some}
 use Rattle.std.specs.List.{position}
 use Rattle.std.proofs.lemmas.List.Quantifiers.{position-Some}
-use Rattle.graph_model.specs.Graphs.{IsNode, is_output}
+use Rattle.graph_model.specs.Graphs.{is_output}
 use Rattle.graph_model.specs.Paths.{reach, latency_of_graph}
 use Rattle.graph_model.specs.Sound.{IsShaped}
 use Rattle.graph_model.specs.declared.graph.Node.{Node}
 use Rattle.graph_model.specs.declared.graph.Graph.{Graph}
-use Rattle.graph_model.proofs.NameFacts.{any_node, name_is, index_of}
+use Rattle.graph_model.proofs.NameFacts.{any_node}
 use Rattle.topology.proofs.OutputFacts.{output_named}
 use Rattle.connections.proofs.NodeFacts.{kept_at}
 

@@ -1,5 +1,5 @@
 -- Nodes by their indexes: what is kept of them, and what their checks find.
-use Rattle.std.proofs.Common.{◌≡◌, ℕ, ◌+◌, ◌<◌, ◌≤◌, List, length, map, take, get_or, refl, sym, ◌∙◌, ap, subst, arith, Bool, true, false, cond, ◌==◌, Option, Some, None, inl, inr}
+use Rattle.std.proofs.Common.{◌≡◌, ℕ, ◌+◌, ◌<◌, ◌≤◌, List, [], length, map, take, get_or, refl, sym, ◌∙◌, ap, subst, arith, Bool, true, false, cond, ◌==◌, Option, Some, None, inl, inr}
 use Rattle.std.specs.Prelude.{is_some, slice_get}
 use Rattle.std.specs.List.{position, position_or_len}
 use Rattle.std.specs.Option.{option_map}
@@ -16,8 +16,10 @@ use Rattle.graph_model.specs.declared.graph.Uid.{Uid}
 use Rattle.graph_model.specs.declared.graph.Node.{Node}
 use Rattle.graph_model.specs.declared.graph.Graph.{Graph}
 use Rattle.graph_model.proofs.PathLaws.{same_name}
-use Rattle.graph_model.specs.Named.{uid_at}
-use Rattle.graph_model.proofs.NameFacts.{any_node, name_is, same_uid}
+use Rattle.graph_model.specs.Graphs.{node_named}
+use Rattle.graph_model.specs.Named.{IsNamed, uid_at}
+use Rattle.graph_model.specs.Sound.{Fits}
+use Rattle.graph_model.proofs.NameFacts.{any_node, name_is, node_is, same_uid}
 use Rattle.connections.specs.Faults.{UidsDiffer, HasUidAt, IsUidTwice, IsOutOfRange, AreInRange}
 
 at_node : {X : Type 0} (f : Graph → ℕ → X) (g : Graph) (xs : List X) (k : ℕ) (d : X) → k < length g.nodes → xs ≡ map (λ (n : Node). f g n.uid.0) g.nodes
@@ -95,3 +97,20 @@ one_more_good ms ns k d n same lt is good none =
 
 pub all_good : (ms ns : List Node) (k : ℕ) → ms ≡ ns → length ms ≤ k → AreInRange (take k ns) → AreInRange ns
 all_good ms ns k same le good = subst (λ (xs : List Node). AreInRange xs) (take_all k ns (subst (λ (xs : List Node). length xs ≤ k) same le)) good
+
+-- ---- names
+-- the graph without its connections, whose nodes are all that a name needs
+abbrev alone : Graph → Graph
+alone g = record { nodes = g.nodes; connections = [] }
+
+-- the node of a name stands at an index of the name
+node_there : (g : Graph) → Fits g → UidsDiffer g.nodes → (v i : ℕ) (d : Node) → (i < length g.nodes) × (uid_at g i ≡ v) → Some (get_or g.nodes i d) ≡ node_named g v
+node_there g fits differ v i d (lt, is) = sym (ap (node_named g) (sym is) ∙ node_is (alone g) named i d lt)
+  where
+    named : IsNamed (alone g)
+    named = record { fits = (fits.0, omega arith); uids_differ = differ; nodes_exist = λ k e less. absurd (omega arith) }
+
+-- so it is what is read at an index of the name
+pub node_found : (g : Graph) → Fits g → UidsDiffer g.nodes → (ns : List Node) (v i : ℕ) (d n : Node) → ns ≡ g.nodes → (i < length g.nodes) × (uid_at g i ≡ v) → n ≡ get_or ns i d
+    → Some n ≡ node_named g v
+node_found g fits differ ns v i d n same at is = ap (λ m. Some m) (is ∙ ap (λ xs. get_or xs i d) same) ∙ node_there g fits differ v i d at

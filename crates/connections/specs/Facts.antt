@@ -7,7 +7,8 @@ use Rattle.topology.specs.Answers.{IsOrderOfNodes, IsReachOf}
 use Rattle.topology.specs.Links.{AreLinks}
 use Rattle.connections.specs.declared.checked.Checked.TheInside.{Inside}
 
--- the graph is sound, and the rest is what the definitions give of it, by node index; the links are the connections, by node indexes
+-- the graph is sound, and the rest is what the definitions give of it, by node index; the links are the connections,
+-- by node indexes
 pub record AreFacts (c : Inside) : Type 0 where
   pub sound : IsSound c.graph
   pub order : IsOrderOfNodes c.graph c.order

@@ -1,3 +1,4 @@
 pub mod Faults
 pub mod Facts
 pub mod Laws
+pub mod Places

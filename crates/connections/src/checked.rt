@@ -56,7 +56,8 @@ impl Checked {
         &self.graph
     }
 
-    /// The indexes of the nodes in their order: again and again the node of least uid whose sources have all been taken.
+    /// The indexes of the nodes in their order: again and again the node of least uid whose sources have all been
+    /// taken.
     pub fn order(&self) -> &List<u32>
         ensures { IsOrderOfNodes self.now result.now }
     {

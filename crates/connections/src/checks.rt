@@ -1,12 +1,13 @@
 //! The checks, in their order.
 
-ghost use Rattle.std.specs.Prelude.{◌≡◌, length, map, IfOk, IfErr, MatchResult};
+ghost use Rattle.std.specs.Prelude.{◌≡◌, length, map, IfOk, IfErr};
 ghost use Rattle.graph_model.specs.Checks.{AreConnections};
 ghost use Rattle.graph_model.specs.Paths.{is_live};
 ghost use Rattle.graph_model.specs.Sound.{Fits, IsShaped, IsSound};
 ghost use Rattle.topology.specs.Answers.{IsOrderOfNodes};
+ghost use Rattle.topology.specs.Links.{AreIndexes};
 ghost use Rattle.headroom.specs.Answers.{AreBounds, AllBounded};
-ghost use Rattle.connections.specs.Faults.{HasGoodNodes, HasFewDelays, HasFewCells, IsFirstFault, IsRefusal};
+ghost use Rattle.connections.specs.Faults.{HasGoodNodes, HasFewDelays, HasFewCells, IsRefusal};
 
 use crate::checked::Checked;
 use crate::fault::GraphFault;
@@ -16,18 +17,23 @@ use crate::nodes::check_nodes;
 use graph_model::{Bound, Graph, List, Refused};
 use headroom::bounds;
 use std::alloc::{AllocError, Global};
-use topology::{Cycle, links, live, longest, order};
+use std::collections::HashMap;
+use topology::{Cycle, indexes, links, live, longest, order};
 
 /// Checks the nodes, and then the connections.
-fn check_parts(graph: &Graph) -> Result<(), GraphFault>
-    requires { Fits graph.now }
-    ensures { MatchResult result
-        (λ _. HasGoodNodes graph.now × AreConnections graph.now (length graph.now.connections))
-        (IsFirstFault graph.now) }
+fn check_parts(
+    alloc: Global,
+    graph: &Graph,
+    indexes: &HashMap<u32, usize>,
+) -> Result<(), Refused<GraphFault>>
+    requires fits { Fits graph.now }
+    requires indexes { AreIndexes graph.now indexes.now }
+    ensures nodes { IfOk result (λ _. HasGoodNodes graph.now) }
+    ensures connections { IfOk result (λ _. AreConnections graph.now (length graph.now.connections)) }
+    ensures refusal { IfErr result (IsRefusal graph.now) }
 {
     check_nodes(graph)?;
-    check_connections(graph)?;
-    Ok(())
+    check_connections(alloc, graph, indexes)
 }
 
 /// The order of the nodes, or else the cycle.
@@ -93,12 +99,13 @@ pub fn check(alloc: Global, graph: Graph) -> Result<Checked, Refused<GraphFault>
     ensures sound { IfOk result (λ _. IsSound graph) }
     ensures refusal { IfErr result (IsRefusal graph) }
 {
-    check_parts(&graph)?;
+    let indexes = indexes(alloc, &graph)?;
+    check_parts(alloc, &graph, &indexes)?;
     let order = order_of(alloc, &graph)?;
     let links = links(alloc, &graph)?;
     let reach = longest(alloc, &graph, &order)?;
     let live = live_of(alloc, &graph)?;
-    check_delays(&graph, &reach, live.as_slice())?;
+    check_delays(&graph, &indexes, &reach, live.as_slice())?;
     check_cells(&graph)?;
     let bounds = bounds_of(alloc, &graph, &order)?;
     Ok(Checked {

@@ -1,3 +1,5 @@
+//! Why a graph is refused, and the order of the checks.
+
 ghost use Rattle.std.specs.Prelude.{◌≡◌};
 ghost use Rattle.graph_model.specs.declared.refused.Refused.TheVariants.{Fault};
 

@@ -7,10 +7,12 @@ ghost use Rattle.graph_model.specs.Ranges.{HasRange};
 ghost use Rattle.graph_model.specs.Paths.{is_live, reach, live_connections, latency_of_graph};
 ghost use Rattle.graph_model.specs.Sound.{Fits, IsShaped};
 ghost use Rattle.topology.specs.Answers.{IsReachOf};
+ghost use Rattle.topology.specs.Links.{AreIndexes};
 ghost use Rattle.connections.specs.Faults.{HasFewDelays, HasFewCells, IsFirstFault};
 
 use crate::fault::GraphFault;
 use graph_model::{Graph, Kind, Uid};
+use std::collections::HashMap;
 use topology::{Reach, index_of};
 
 /// The most frames that the lines of a graph may hold together, were each as long as the graph's latency.
@@ -30,16 +32,18 @@ fn latency_of(graph: &Graph, reach: &Reach) -> u64
 }
 
 /// Whether the node of a uid is live.
-fn is_live(graph: &Graph, live: &[bool], uid: Uid) -> bool
+fn is_live(graph: &Graph, indexes: &HashMap<u32, usize>, live: &[bool], uid: Uid) -> bool
+    requires indexes { AreIndexes graph.now indexes.now }
     requires node { IsNode graph.now uid.0 }
     requires live { live.now ≡ map (λ n. is_live graph.now n.uid.0) graph.now.nodes }
     ensures { result ≡ is_live graph.now uid.0 }
 {
-    live[index_of(graph, uid)]
+    live[index_of(graph, indexes, uid)]
 }
 
 /// How many connections lead to a live node.
-fn live_connections(graph: &Graph, live: &[bool]) -> usize
+fn live_connections(graph: &Graph, indexes: &HashMap<u32, usize>, live: &[bool]) -> usize
+    requires indexes { AreIndexes graph.now indexes.now }
     requires shaped { IsShaped graph.now }
     requires live { live.now ≡ map (λ n. is_live graph.now n.uid.0) graph.now.nodes }
     ensures count { result ≡ length (live_connections graph.now) }
@@ -47,7 +51,7 @@ fn live_connections(graph: &Graph, live: &[bool]) -> usize
 {
     let mut count = 0;
     for connection in graph.connections.as_slice() {
-        if is_live(graph, live, connection.dst) {
+        if is_live(graph, indexes, live, connection.dst) {
             count += 1;
         }
     }
@@ -55,15 +59,21 @@ fn live_connections(graph: &Graph, live: &[bool]) -> usize
 }
 
 /// Finds that the latency times the number of live connections passes its limit.
-pub(crate) fn check_delays(graph: &Graph, reach: &Reach, live: &[bool]) -> Result<(), GraphFault>
+pub(crate) fn check_delays(
+    graph: &Graph,
+    indexes: &HashMap<u32, usize>,
+    reach: &Reach,
+    live: &[bool],
+) -> Result<(), GraphFault>
     requires fits { Fits graph.now }
+    requires indexes { AreIndexes graph.now indexes.now }
     requires shaped { IsShaped graph.now }
     requires reach { IsReachOf graph.now reach.now }
     requires live { live.now ≡ map (λ n. is_live graph.now n.uid.0) graph.now.nodes }
     ensures { MatchResult result (λ _. HasFewDelays graph.now) (IsFirstFault graph.now) }
 {
     let latency = latency_of(graph, reach);
-    let connections = live_connections(graph, live) as u32;
+    let connections = live_connections(graph, indexes, live) as u32;
     if connections as u128 * latency as u128 > MOST_DELAYS {
         return Err(GraphFault::DelayBound {
             latency,

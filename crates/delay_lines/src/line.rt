@@ -1,3 +1,5 @@
+//! A line of delay over a ring of samples.
+
 ghost use Rattle.std.specs.Prelude.{◌≡◌, ◌^◌, ◌≤◌, ◌-◌, ◌↔◌, ℤ, pos, List, [], ◌∷◌, ◌++◌, length, replicate, slice_index_or, IfOk, IsTrue};
 
 use circular_buffer::HeapCircularBuffer;

@@ -1,4 +1,5 @@
--- An engine that stands for a history is in its state of the frame events, and what the events leave is what contracts see.
+-- An engine that stands for a history is in its state of the frame events, and what the events leave is what
+-- contracts see.
 use Rattle.std.proofs.Common.{◌≡◌, ℕ, zero, suc, ◌+◌, ◌-◌, ◌*◌, ◌^◌, ◌<◌, ◌≤◌, ℤ, List, [], ◌∷◌, ◌++◌, length, map, drop, get_or, refl, sym, ◌∙◌, ap, subst, arith, true, false, cond, Some, ⊎_elim}
 use Rattle.std.specs.Prelude.{unsigned_abs, reverse}
 use Rattle.std.proofs.lemmas.Bool.{false≢true}

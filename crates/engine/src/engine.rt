@@ -90,9 +90,9 @@ impl Engine {
         })
     }
 
-    /// Takes a block of frames, and gives as many. Both are interleaved, frame by frame, with a sample for each channel of
-    /// the graph's input node and of its output node. Each job passes the gate with its node's index before its first
-    /// frame. No memory is taken.
+    /// Takes a block of frames, and gives as many. Both are interleaved, frame by frame, with a sample for each
+    /// channel of the graph's input node and of its output node. Each job passes the gate with its node's index
+    /// before its first frame. No memory is taken.
     pub fn render<T: Threads + Sync, G: Gate + Sync>(
         &mut self,
         rt: &T,

@@ -167,7 +167,8 @@ module _ (g : Graph) (plan : Plan) (sound : IsSound g) (c : IsCertified g plan) 
   }
 
   module _ (x : ℕ → Frame) (T n : ℕ) (brings : (k : ℕ) → k < n → block k ≡ x (T + k)) where
-    -- before wave s: the nodes of the earlier waves have taken n frames more, and the pool has the samples that are needed from here on
+    -- before wave s: the nodes of the earlier waves have taken n frames more, and the pool has the samples that are
+    -- needed from here on
     pub record IsBefore (s : ℕ) (st : core.State Kept) : Type 0 where
       pub done : (v : ℕ) → is_live g v ≡ true → wave_of plan.waves v < s → st.kept v ≡ kept_at g p x (T + n) v
       pub ahead : (v : ℕ) → is_live g v ≡ true → s ≤ wave_of plan.waves v → st.kept v ≡ kept_at g p x T v

@@ -6,7 +6,8 @@ use Rattle.graph_model.specs.Answers.{answer}
 use Rattle.graph_model.specs.Sound.{IsSound}
 use Rattle.engine_model.specs.Engines.{Parts, Stands, IsSame, Answers, ins, outs}
 
--- From e a block came to e': whatever history e stood for, e' stands for it with the block, and the output is the answer.
+-- From e a block came to e': whatever history e stood for, e' stands for it with the block, and the output is the
+-- answer.
 pub record HasRendered (e : Parts) (input output : List ℤ) (e' : Parts) : Type 0 where
   pub same : IsSame e e'
   pub frames : (n : ℕ) × (length input ≡ n * ins e) × (length output ≡ n * outs e)

@@ -32,7 +32,8 @@ BlocksRun = (g : Graph) (plan : Plan) (x block : ℕ → Frame) (T n : ℕ) (ord
     (v : ℕ) → is_live g v ≡ true → (core.after (machine g (positions plan) plan.homes block) orders s).kept v ≡ kept_at g (positions plan) x (T + n) v
 
 -- ---- engines
--- an engine that a block leaves as its frame events do stands for the history with the block, and its output is the answer
+-- an engine that a block leaves as its frame events do stands for the history with the block, and its output is the
+-- answer
 abbrev pub OrdersGiveAnswers : Type 0
 OrdersGiveAnswers = (e e' : Parts) (n : ℕ) (input output : List ℤ) (h : History) → IsSound e.graph → IsCertified e.graph e.plan → IsSame e e' →
     length input ≡ n * ins e → map (λ j. j.node) e'.jobs ≡ map (λ j. j.node) e.jobs → e'.frames ≡ e.frames + n →

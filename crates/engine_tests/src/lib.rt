@@ -1,5 +1,6 @@
-//! Tests of `engine` beside the definition: in whatever blocks an input comes, one node a wave or in waves, an engine gives
-//! what `renderer` finds of the whole input. And that two nodes of one wave run beside each other inside one block.
+//! Tests of `engine` beside the definition: in whatever blocks an input comes, one node a wave or in waves, an engine
+//! gives what `renderer` finds of the whole input. And that two nodes of one wave run beside each other inside one
+//! block.
 //!
 //! It has no code but tests.
 #![tactic(auto)]

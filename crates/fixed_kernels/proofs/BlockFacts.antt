@@ -1,20 +1,16 @@
 -- What a kernel of any kind owes when a block of planar samples comes in.
-use Rattle.std.proofs.Common.{◌≡◌, ℕ, zero, suc, ◌+◌, ◌-◌, ◌*◌, ◌^◌, ◌<◌, ◌≤◌, List, [], ◌∷◌, ◌++◌, length, take, get_or, ℤ, pos, false, refl, sym, ap, ◌∙◌, subst, arith, ⊎_elim, inl, inr}
+use Rattle.std.proofs.Common.{◌≡◌, ℕ, suc, ◌+◌, ◌*◌, ◌^◌, ◌<◌, ◌≤◌, List, [], ◌++◌, length, take, get_or, ℤ, pos, false, sym, ap, ◌∙◌, subst, arith}
 use Rattle.std.specs.Prelude.{unsigned_abs}
-use Rattle.std.specs.Prelude.{◌⊎◌}
-use Rattle.std.proofs.lemmas.Bool.{cases_lt}
-use Rattle.std.proofs.lemmas.List.{take_at}
-use Rattle.std.proofs.lemmas.List.FromFn.{get_or-map-range_with_len, length-map-range_with_len, fill_by_all}
-use Rattle.graph_model.specs.Histories.{Frame, History, before, channel, each, frame_in, on_each, stream}
+use Rattle.std.proofs.lemmas.List.FromFn.{get_or-map-range_with_len}
+use Rattle.graph_model.specs.Histories.{Frame, History, before}
 use Rattle.graph_model.specs.Kinds.{ins_of, outs_of, rule_of, stream_of}
 use Rattle.graph_model.specs.Graphs.{is_input}
 use Rattle.graph_model.specs.Bounds.{IsWithin}
 use Rattle.graph_model.proofs.BoundLaws.{rule_bounded}
-use Rattle.std.proofs.Math.Nat.{suc-mul, mul-le-mul_right}
-use Rattle.graph_model.proofs.BlockLaws.{length-before, before-same, sample_in}
-use Rattle.graph_model.specs.Blocks.{planar_frame, planar, so_far}
+use Rattle.graph_model.proofs.BlockLaws.{before-same}
+use Rattle.graph_model.specs.Blocks.{planar_frame, planar}
 use Rattle.graph_model.specs.Kernels.{KernelState, IsFrameWithin}
-use Rattle.graph_model.proofs.PlanarLaws.{within-cons, on_each_is, take-stream, within-before, within_upto, one_planar}
+use Rattle.graph_model.proofs.PlanarLaws.{take-stream, within-before, within_upto, one_planar}
 use Rattle.graph_model.proofs.StreamFacts.{frame_within}
 use Rattle.fixed_kernels.specs.Kernels.{Keeps, IsKernel, IsNextFrame, IsNextBlock}
 use Rattle.fixed_kernels.proofs.KernelFacts.{bound_at}

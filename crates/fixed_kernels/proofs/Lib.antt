@@ -5,6 +5,7 @@ pub mod KernelFacts
 pub mod BlockFacts
 pub mod RowFacts
 pub mod NarrowFacts
+pub mod FourFacts
 pub mod GainFacts
 pub mod MixerFacts
 pub mod HoldFacts

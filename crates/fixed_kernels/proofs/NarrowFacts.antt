@@ -1,5 +1,5 @@
 -- Sums of coefficients times samples, in 64 bits and in 128.
-use Rattle.std.proofs.Common.{◌≡◌, ℕ, ◌+◌, ◌-◌, ◌*◌, ◌^◌, ◌<◌, ◌≤◌, List, length, take, drop, get_or, ℤ, pos, negsuc, sym, ap, ◌∙◌, arith, add-one}
+use Rattle.std.proofs.Common.{◌≡◌, ℕ, ◌+◌, ◌-◌, ◌*◌, ◌^◌, ◌<◌, ◌≤◌, List, length, take, drop, get_or, ℤ, pos, sym, ap, ◌∙◌, arith, add-one}
 use Rattle.std.specs.Prelude.{unsigned_abs, neg_ℤ, ◌+ℤ◌, ◌-ℤ◌, ◌*ℤ◌}
 use Rattle.std.proofs.lemmas.Int.{ints, clamps, unsigned_abs-mul}
 use Rattle.std.proofs.lemmas.List.{get_or-drop, take_all}
@@ -12,7 +12,7 @@ use Rattle.fixed_kernels.specs.Sums.{IsPart, IsSum, IsWidePart, IsWideSum}
 use Rattle.fixed_kernels.specs.Sections.{IsSmallTail, next_tail}
 use Rattle.fixed_kernels.specs.declared.section.Section.{Section}
 use Rattle.fixed_kernels.specs.declared.section.Tail.{Tail}
-use Rattle.fixed_kernels.proofs.SumLaws.{abs-add, products-take_more}
+use Rattle.fixed_kernels.proofs.SumLaws.{products-take_more}
 
 pub abs-within : (t x : ℤ) (b : ℕ) → unsigned_abs x ≤ b → unsigned_abs (t *ℤ x) ≤ unsigned_abs t * b
 abs-within t x b h = let e = unsigned_abs-mul t x in let l = mul-le-mul_left (unsigned_abs t) h in omega arith

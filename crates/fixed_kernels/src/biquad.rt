@@ -17,10 +17,9 @@ use graph_model::{Bound, Kind};
 use std::alloc::{AllocError, Global};
 use std::marker::Model;
 
-/// A second-order section in direct form 1 on each channel (Oppenheim and Schafer, Discrete-Time Signal Processing), whose
-/// clamped output is fed back:
-/// `y(n) = clamp(rs(b0*x(n) + b1*x(n-1) + b2*x(n-2) - a1*y(n-1) - a2*y(n-2), shift))`, to `2^bits - 1` in size, where
-/// `rs(a, q)` is `a / 2^q` rounded to the nearest, a half upward.
+/// A second-order section in direct form 1 on each channel (Oppenheim and Schafer, Discrete-Time Signal Processing),
+/// whose clamped output is fed back: `y(n) = clamp(rs(b0*x(n) + b1*x(n-1) + b2*x(n-2) - a1*y(n-1) - a2*y(n-2),
+/// shift))`, to `2^bits - 1` in size, where `rs(a, q)` is `a / 2^q` rounded to the nearest, a half upward.
 #[derive(Drop)]
 pub struct Biquad {
     section: Section,
@@ -41,8 +40,8 @@ impl Model for Biquad {
 }
 
 impl Biquad {
-    /// A section that nothing has come into, of a kind in range and the bounds of such a node. It fails only for want of
-    /// memory.
+    /// A section that nothing has come into, of a kind in range and the bounds of such a node. It fails only for want
+    /// of memory.
     pub fn make(alloc: Global, kind: &Kind, bound: &Bound) -> Result<Self, AllocError>
         requires kind { IsBiquad kind.now }
         requires range { HasRange kind.now }

@@ -24,8 +24,8 @@ use std::marker::Model;
 const PART: usize = 64;
 
 /// A finite impulse response on each channel, over as many of the last samples as it has taps:
-/// `y(n) = rs(sum over k of h(k) * x(n - k), shift)`, where `rs(a, q)` is `a / 2^q` rounded to the nearest, a half upward
-/// (Oppenheim and Schafer, Discrete-Time Signal Processing).
+/// `y(n) = rs(sum over k of h(k) * x(n - k), shift)`, where `rs(a, q)` is `a / 2^q` rounded to the nearest, a half
+/// upward (Oppenheim and Schafer, Discrete-Time Signal Processing).
 #[derive(Drop)]
 pub struct Fir {
     channels: u32,

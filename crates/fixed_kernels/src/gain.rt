@@ -15,7 +15,8 @@ use graph_model::{Bound, Kind, rs};
 use std::alloc::{AllocError, Global};
 use std::marker::Model;
 
-/// A gain on each channel: `y(n) = rs(g * x(n), 16)`, where `rs(a, q)` is `a / 2^q` rounded to the nearest, a half upward.
+/// A gain on each channel: `y(n) = rs(g * x(n), 16)`, where `rs(a, q)` is `a / 2^q` rounded to the nearest, a half
+/// upward.
 #[derive(Drop)]
 pub struct Gain {
     channels: u32,
@@ -83,7 +84,7 @@ fn scale(gain: i32, most: u64, ins: &[i64], outs: &mut [i64])
     }
 }
 
-/// The same in 64 bits.
+/// The same in 64 bits, four at a time: products of 64 bits cost less one by one than in vectors.
 fn scale_narrow(gain: i32, most: u64, ins: &[i64], outs: &mut [i64])
     requires count { length outs.old ≡ length ins.now }
     requires small { unsigned_abs gain * most ≤ 2 ^ 62 }
@@ -91,9 +92,27 @@ fn scale_narrow(gain: i32, most: u64, ins: &[i64], outs: &mut [i64])
     ensures { (c : ℕ) → c < length ins.now →
         slice_index_or outs.new c (pos 0) ≡ rounded (gain *ℤ slice_index_or ins.now c (pos 0)) 16 }
 {
-    for c in 0..ins.len() {
-        outs[c] = rs_narrow(narrow_product(gain, ins[c], most), 16);
+    let fours = ins.len() / 4;
+    for q in 0..fours {
+        let c = q * 4;
+        outs[c] = scaled_narrow(gain, ins[c], most);
+        outs[c + 1] = scaled_narrow(gain, ins[c + 1], most);
+        outs[c + 2] = scaled_narrow(gain, ins[c + 2], most);
+        outs[c + 3] = scaled_narrow(gain, ins[c + 3], most);
     }
+    for c in fours * 4..ins.len() {
+        outs[c] = scaled_narrow(gain, ins[c], most);
+    }
+}
+
+/// A sample that is no larger than this, times the gain.
+#[inline]
+fn scaled_narrow(gain: i32, sample: i64, most: u64) -> i64
+    requires small { unsigned_abs gain * most ≤ 2 ^ 62 }
+    requires within { unsigned_abs sample ≤ most }
+    ensures { result ≡ rounded (gain *ℤ sample) 16 }
+{
+    rs_narrow(narrow_product(gain, sample, most), 16)
 }
 
 /// The same in 128 bits.

@@ -6,9 +6,9 @@
 //! Signal Processing: the finite impulse response as a sum of products over a delay line, the biquad in direct form 1.
 //!
 //! It promises that a kernel is made for the empty history, and that the frames that go out are the last ones of
-//! the kind's stream of what came in, for every history; that no output passes its bound where no input does, and that no
-//! sum and no cast loses anything; that a block takes no memory and is never refused. Two laws hold of every kernel
-//! ([`laws`]): its stream is causal, and quiet.
+//! the kind's stream of what came in, for every history; that no output passes its bound where no input does, and
+//! that no sum and no cast loses anything; that a block takes no memory and is never refused. Two laws hold of every
+//! kernel ([`laws`]): its stream is causal, and quiet.
 //!
 //! Kernels of other crates stand on its trait and on its words for kernels.
 //!

@@ -18,8 +18,8 @@ use graph_model::{Bound, Kind, List, rs};
 use std::alloc::{AllocError, Global};
 use std::marker::Model;
 
-/// Output channels that are sums of the input channels times gains: `y_o(n) = rs(sum over i of g_oi * x_i(n), 16)`, where
-/// `rs(a, q)` is `a / 2^q` rounded to the nearest, a half upward.
+/// Output channels that are sums of the input channels times gains: `y_o(n) = rs(sum over i of g_oi * x_i(n), 16)`,
+/// where `rs(a, q)` is `a / 2^q` rounded to the nearest, a half upward.
 #[derive(Drop)]
 pub struct Mixer {
     ins: u32,
@@ -168,7 +168,7 @@ fn add_rows(row: &[i32], most: u64, frames: usize, ins: &[i64], outs: &mut [i64]
     }
 }
 
-/// Adds a row times a gain.
+/// Adds a row times a gain, four samples at a time: products of 64 bits cost less one by one than in vectors.
 fn add_row(gain: i32, most: u64, ins: &[i64], outs: &mut [i64])
     requires outs { length outs.old ≡ length ins.now }
     requires within { (t : ℕ) → t < length ins.now → unsigned_abs (slice_index_or ins.now t (pos 0)) ≤ most }
@@ -179,7 +179,15 @@ fn add_row(gain: i32, most: u64, ins: &[i64], outs: &mut [i64])
     if gain == 0 {
         return;
     }
-    for t in 0..ins.len() {
+    let fours = ins.len() / 4;
+    for q in 0..fours {
+        let t = q * 4;
+        outs[t] = plus_narrow(outs[t], gain, ins[t], most);
+        outs[t + 1] = plus_narrow(outs[t + 1], gain, ins[t + 1], most);
+        outs[t + 2] = plus_narrow(outs[t + 2], gain, ins[t + 2], most);
+        outs[t + 3] = plus_narrow(outs[t + 3], gain, ins[t + 3], most);
+    }
+    for t in fours * 4..ins.len() {
         outs[t] = plus_narrow(outs[t], gain, ins[t], most);
     }
 }

@@ -1,3 +1,5 @@
+//! Where a job may be held before its first frame, so that tests can make two jobs meet.
+
 /// A place that a job passes before its first frame. The call returns, and answers nothing, so that no gate can change
 /// what a job does.
 pub trait Gate {

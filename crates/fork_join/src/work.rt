@@ -1,3 +1,5 @@
+//! Jobs that share what they read, and the call that runs each once in at most so many threads.
+
 ghost use Rattle.std.specs.Prelude.{◌≡◌, ℕ, ◌<◌, ◌≤◌, length, slice_index_or, All};
 
 use std::num::NonZeroUsize;
@@ -19,8 +21,8 @@ pub trait Work<S> {
 }
 
 /// Runs every job once, in at most so many threads and no more than there are jobs. This thread is one of them: where
-/// `threads` is less than two, or there is one job, none is started. It takes no memory of its own; where the system can
-/// make no thread, jobs run in turn.
+/// `threads` is less than two, or there is one job, none is started. It takes no memory of its own; where the system
+/// can make no thread, jobs run in turn.
 pub fn run<T: Threads + Sync, S: Sync, J: Work<S> + Send>(
     rt: &T,
     threads: usize,
@@ -34,8 +36,8 @@ pub fn run<T: Threads + Sync, S: Sync, J: Work<S> + Send>(
     thread::for_each_mut(rt, jobs, threads.max(1), &|_, job| job.work(shared));
 }
 
-/// How many threads serve: as many as there are processors, and two on any machine. It reads files, which costs about as
-/// much as to start a thread, so that a caller asks once.
+/// How many threads serve: as many as there are processors, and two on any machine. It reads files, which costs about
+/// as much as to start a thread, so that a caller asks once.
 pub fn processors(rt: &impl Threads) -> usize
     ensures { 2 ≤ result }
 {

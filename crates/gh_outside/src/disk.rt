@@ -183,42 +183,6 @@ mod tests {
     use std::os::unix::fs::symlink;
     use std::test::Fail;
 
-    #[test]
-    fn writes_and_reads_a_real_file(rt: HostRuntime) -> Result<(), Fail> {
-        let name = "written_by_disk_folder";
-        let mut folder = DiskFolder::new(&rt);
-        let mut read = [0u8; 3];
-        assert_eq!(rt; folder.create(name), Ok(()));
-        assert_eq!(rt; folder.append(name, b"abc"), Ok(()));
-        assert_eq!(rt; folder.append(name, b"def"), Ok(()));
-        assert_eq!(rt; folder.length(name), Ok(6));
-        assert_eq!(rt; folder.read_exact_at(name, 2, &mut read), Ok(()));
-        assert_eq!(rt; read, *b"cde");
-        assert_eq!(rt; (folder.read_faults, folder.write_faults), (0, 0));
-        fs::remove_file(&rt, name)?;
-        Ok(())
-    }
-
-    #[test]
-    fn what_is_not_there_is_a_fault(rt: HostRuntime) {
-        let name = "never_written_by_disk_folder";
-        let mut folder = DiskFolder::new(&rt);
-        assert_eq!(rt; folder.length(name), Err(Failed));
-        assert_eq!(rt; folder.read_exact_at(name, 0, &mut [0u8; 1]), Err(Failed));
-        assert_eq!(rt; folder.append(name, b"abc"), Err(Failed));
-        assert_eq!(rt; (folder.read_faults, folder.write_faults), (2, 1));
-    }
-
-    /// Makes a name hold the bytes.
-    fn write<H: Files>(
-        folder: &mut DiskFolder<'_, H>,
-        name: &str,
-        bytes: &[u8],
-    ) -> Result<(), Failed> {
-        folder.create(name)?;
-        folder.append(name, bytes)
-    }
-
     /// The two bytes from the offset on.
     fn two<H: Files>(
         folder: &mut DiskFolder<'_, H>,
@@ -230,85 +194,152 @@ mod tests {
         Ok(read)
     }
 
-    #[test]
-    fn reads_go_from_name_to_name(rt: HostRuntime) -> Result<(), Fail> {
-        let mut folder = DiskFolder::new(&rt);
-        assert_eq!(rt; write(&mut folder, "first_of_two", b"abcd"), Ok(()));
-        assert_eq!(rt; write(&mut folder, "second_of_two", b"efgh"), Ok(()));
-        assert_eq!(rt; two(&mut folder, "first_of_two", 2), Ok(*b"cd"));
-        assert_eq!(rt; two(&mut folder, "first_of_two", 0), Ok(*b"ab"));
-        assert_eq!(rt; two(&mut folder, "second_of_two", 1), Ok(*b"fg"));
-        assert_eq!(rt; folder.length("first_of_two"), Ok(4));
-        assert_eq!(rt; two(&mut folder, "first_of_two", 1), Ok(*b"bc"));
-        fs::remove_file(&rt, "first_of_two")?;
-        fs::remove_file(&rt, "second_of_two")?;
-        Ok(())
+    /// Whether two bytes are read so, or the read fails so.
+    fn reads<H: Files>(
+        folder: &mut DiskFolder<'_, H>,
+        name: &str,
+        from: u64,
+        wanted: &str,
+    ) -> bool {
+        match two(folder, name, from) {
+            Ok(read) => read.as_slice() == wanted.as_bytes(),
+            Err(Failed) => wanted == "failed",
+        }
+    }
+
+    /// Whether a call ends as its line says: `create a`, `append a bytes`, `length a 3`, `read a 0 by` or `remove a`,
+    /// and `failed` where it fails.
+    fn ends_so<H: Files>(rt: &H, folder: &mut DiskFolder<'_, H>, line: &str) -> bool {
+        let mut words = line.split(' ');
+        let call = words.next().unwrap_or("");
+        let name = words.next().unwrap_or("");
+        let first = words.next().unwrap_or("");
+        let second = words.next().unwrap_or("");
+        match call {
+            "create" => folder.create(name).is_ok() == first.is_empty(),
+            "append" => folder.append(name, first.as_bytes()).is_ok() == second.is_empty(),
+            "length" => folder.length(name).ok() == first.parse().ok(),
+            "read" => reads(folder, name, first.parse().unwrap_or(0), second),
+            _ => fs::remove_file(rt, name).is_ok(),
+        }
+    }
+
+    /// Makes the calls of a script in turn, and tells the first that does not end as its line says.
+    fn astray<'s, H: Files>(
+        rt: &H,
+        folder: &mut DiskFolder<'_, H>,
+        script: &'s str,
+    ) -> Option<&'s str> {
+        for line in script.lines() {
+            if !ends_so(rt, folder, line) {
+                return Some(line);
+            }
+        }
+        None
     }
 
     #[test]
-    fn a_file_stays_open_until_another_is_read(rt: HostRuntime) -> Result<(), Fail> {
+    fn writes_and_reads_a_real_file(rt: HostRuntime) {
         let mut folder = DiskFolder::new(&rt);
-        assert_eq!(rt; write(&mut folder, "read_and_removed", b"abcd"), Ok(()));
-        assert_eq!(rt; two(&mut folder, "read_and_removed", 0), Ok(*b"ab"));
-        fs::remove_file(&rt, "read_and_removed")?;
-        assert_eq!(rt; folder.append("read_and_removed", b"ef"), Ok(()));
-        assert_eq!(rt; two(&mut folder, "read_and_removed", 4), Ok(*b"ef"));
-        assert_eq!(rt; folder.length("read_and_removed"), Ok(6));
-        assert_eq!(rt; two(&mut folder, "another_name", 0), Err(Failed));
-        assert_eq!(rt; folder.length("read_and_removed"), Err(Failed));
-        Ok(())
+        let script = "\
+create written_by_disk_folder
+append written_by_disk_folder abc
+append written_by_disk_folder def
+length written_by_disk_folder 6
+read written_by_disk_folder 2 cd
+remove written_by_disk_folder";
+        assert_eq!(rt; astray(&rt, &mut folder, script), None);
+        assert_eq!(rt; (folder.read_faults, folder.write_faults), (0, 0));
     }
 
     #[test]
-    fn a_read_past_the_end_is_a_fault_and_the_next_one_is_right(
-        rt: HostRuntime,
-    ) -> Result<(), Fail> {
+    fn what_is_not_there_is_a_fault(rt: HostRuntime) {
         let mut folder = DiskFolder::new(&rt);
-        assert_eq!(rt; write(&mut folder, "short_of_a_byte", b"abc"), Ok(()));
-        assert_eq!(rt; two(&mut folder, "short_of_a_byte", 2), Err(Failed));
-        assert_eq!(rt; two(&mut folder, "short_of_a_byte", 1), Ok(*b"bc"));
+        let script = "\
+length never_written failed
+read never_written 0 failed
+append never_written abc failed";
+        assert_eq!(rt; astray(&rt, &mut folder, script), None);
+        assert_eq!(rt; (folder.read_faults, folder.write_faults), (2, 1));
+    }
+
+    #[test]
+    fn reads_and_appends_go_from_name_to_name(rt: HostRuntime) {
+        let mut folder = DiskFolder::new(&rt);
+        let script = "\
+create first_of_two
+append first_of_two ab
+create second_of_two
+append second_of_two ef
+append first_of_two cd
+append second_of_two gh
+read first_of_two 2 cd
+read first_of_two 0 ab
+read second_of_two 1 fg
+length first_of_two 4
+read first_of_two 1 bc
+remove first_of_two
+remove second_of_two";
+        assert_eq!(rt; astray(&rt, &mut folder, script), None);
+    }
+
+    #[test]
+    fn a_file_stays_open_until_another_is_read(rt: HostRuntime) {
+        let mut folder = DiskFolder::new(&rt);
+        let script = "\
+create read_and_removed
+append read_and_removed abcd
+read read_and_removed 0 ab
+remove read_and_removed
+append read_and_removed ef
+read read_and_removed 4 ef
+length read_and_removed 6
+read another_name 0 failed
+length read_and_removed failed";
+        assert_eq!(rt; astray(&rt, &mut folder, script), None);
+    }
+
+    #[test]
+    fn a_read_past_the_end_is_a_fault_and_the_next_one_is_right(rt: HostRuntime) {
+        let mut folder = DiskFolder::new(&rt);
+        let script = "\
+create short_of_a_byte
+append short_of_a_byte abc
+read short_of_a_byte 2 failed
+read short_of_a_byte 1 bc
+remove short_of_a_byte";
+        assert_eq!(rt; astray(&rt, &mut folder, script), None);
         assert_eq!(rt; folder.read_faults, 1);
-        fs::remove_file(&rt, "short_of_a_byte")?;
-        Ok(())
     }
 
     #[test]
-    fn appends_come_after_those_of_others(rt: HostRuntime) -> Result<(), Fail> {
+    fn appends_come_after_those_of_others(rt: HostRuntime) {
         let (mut one, mut other) = (DiskFolder::new(&rt), DiskFolder::new(&rt));
-        assert_eq!(rt; write(&mut one, "appended_by_two", b"ab"), Ok(()));
+        let begin = "create appended_by_two\nappend appended_by_two ab";
+        let end = "\
+append appended_by_two ef
+read appended_by_two 2 cd
+read appended_by_two 4 ef
+length appended_by_two 6
+remove appended_by_two";
+        assert_eq!(rt; astray(&rt, &mut one, begin), None);
         assert_eq!(rt; other.append("appended_by_two", b"cd"), Ok(()));
-        assert_eq!(rt; one.append("appended_by_two", b"ef"), Ok(()));
-        assert_eq!(rt; two(&mut one, "appended_by_two", 2), Ok(*b"cd"));
-        assert_eq!(rt; two(&mut one, "appended_by_two", 4), Ok(*b"ef"));
-        assert_eq!(rt; one.length("appended_by_two"), Ok(6));
-        fs::remove_file(&rt, "appended_by_two")?;
-        Ok(())
+        assert_eq!(rt; astray(&rt, &mut one, end), None);
     }
 
     #[test]
-    fn appends_go_from_name_to_name(rt: HostRuntime) -> Result<(), Fail> {
+    fn the_name_that_was_read_is_made_anew(rt: HostRuntime) {
         let mut folder = DiskFolder::new(&rt);
-        assert_eq!(rt; write(&mut folder, "one_appended", b"a"), Ok(()));
-        assert_eq!(rt; write(&mut folder, "other_appended", b"c"), Ok(()));
-        assert_eq!(rt; folder.append("one_appended", b"b"), Ok(()));
-        assert_eq!(rt; folder.append("other_appended", b"d"), Ok(()));
-        assert_eq!(rt; two(&mut folder, "one_appended", 0), Ok(*b"ab"));
-        assert_eq!(rt; two(&mut folder, "other_appended", 0), Ok(*b"cd"));
-        fs::remove_file(&rt, "one_appended")?;
-        fs::remove_file(&rt, "other_appended")?;
-        Ok(())
-    }
-
-    #[test]
-    fn the_name_that_was_read_is_made_anew(rt: HostRuntime) -> Result<(), Fail> {
-        let mut folder = DiskFolder::new(&rt);
-        assert_eq!(rt; write(&mut folder, "read_and_made_anew", b"abcdef"), Ok(()));
-        assert_eq!(rt; two(&mut folder, "read_and_made_anew", 0), Ok(*b"ab"));
-        assert_eq!(rt; write(&mut folder, "read_and_made_anew", b"ghi"), Ok(()));
-        assert_eq!(rt; folder.length("read_and_made_anew"), Ok(3));
-        assert_eq!(rt; two(&mut folder, "read_and_made_anew", 1), Ok(*b"hi"));
-        fs::remove_file(&rt, "read_and_made_anew")?;
-        Ok(())
+        let script = "\
+create read_and_made_anew
+append read_and_made_anew abcdef
+read read_and_made_anew 0 ab
+create read_and_made_anew
+append read_and_made_anew ghi
+length read_and_made_anew 3
+read read_and_made_anew 1 hi
+remove read_and_made_anew";
+        assert_eq!(rt; astray(&rt, &mut folder, script), None);
     }
 
     /// What creating the other name gives after the name was read, and how many writes failed.

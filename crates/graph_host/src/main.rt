@@ -2,10 +2,11 @@
 //!
 //! `run` is all that the program does: `main` makes the real folder and sink, hands them to `run` with the words of
 //! the command line, prints the text of the end on standard error and ends with its status. What `run` promises holds
-//! of every folder and sink, for each of its modes: `render` writes exactly the graph's answer to a WAV file and reports
-//! the plan, `compile` reports the plan, `check` judges a plan, `demo` shows a graph that is made of a number. Every plan
-//! that it makes is certified and has the least latency, delay and buffers; a write or a report that fails leaves a
-//! first part of what was to come; nothing else changes; and every other end has its stated cause.
+//! of every folder and sink, for each of its modes: `render` writes exactly the graph's answer to a WAV file and
+//! reports the plan, `compile` reports the plan, `check` judges a plan, `demo` shows a graph that is made of a
+//! number. Every plan that it makes is certified and has the least latency, delay and buffers; a write or a report
+//! that fails leaves a first part of what was to come; nothing else changes; and every other end has its stated
+//! cause.
 //!
 //! It stands on host_modes, which does the work of each mode, on what command_words says that the words ask for, and on
 //! gh_outside for files and the report.

@@ -1,4 +1,5 @@
-//! What no clause says: worked examples in their bytes, printed texts, and each call of the outside failing in turn.
+//! What no clause says: what worked examples leave where each call of the outside fails in turn, in their bytes and
+//! their texts.
 
 use crate::{End, Run, run};
 use gh_outside::{MemoryFolder, MemorySink};
@@ -8,141 +9,24 @@ use std::process::Abort;
 use std::test::Fail;
 use std::thread::Threads;
 
-/// A straight connection from the input to the output.
-const STRAIGHT: &[u8] =
-    b"{\"FILTERGRAPH\":{\"CONNECTION\":[{\"dstChannel\":0,\"dstFilter\":2,\"srcChannel\":0,\"srcFilter\":1}],\"FILTER\":[{\"channels\":1,\"kind\":\"input\",\"uid\":1},{\"channels\":1,\"kind\":\"output\",\"uid\":2}]}}";
-
-/// A gain of one half between input and output, whose records stand in another order than they are rendered in.
-const HALF: &[u8] =
-    b"{\"FILTERGRAPH\":{\"FILTER\":[{\"uid\":2,\"kind\":\"output\",\"channels\":1},{\"uid\":3,\"kind\":\"gain\",\"channels\":1,\"gain\":32768},{\"uid\":1,\"kind\":\"input\",\"channels\":1}],\"CONNECTION\":[{\"srcFilter\":3,\"srcChannel\":0,\"dstFilter\":2,\"dstChannel\":0},{\"srcFilter\":1,\"srcChannel\":0,\"dstFilter\":3,\"dstChannel\":0}]}}";
-
-/// Both channels of the input summed into the one of the output.
-const SUM: &[u8] =
-    b"{\"FILTERGRAPH\":{\"FILTER\":[{\"uid\":1,\"kind\":\"input\",\"channels\":2},{\"uid\":2,\"kind\":\"output\",\"channels\":1}],\"CONNECTION\":[{\"srcFilter\":1,\"srcChannel\":0,\"dstFilter\":2,\"dstChannel\":0},{\"srcFilter\":1,\"srcChannel\":1,\"dstFilter\":2,\"dstChannel\":0}]}}";
-
-/// The samples 100, -200, 300 of 16 bits, mono, 48,000 frames a second.
-const THREE_FRAMES: &[u8] =
-    b"RIFF\x2A\0\0\0WAVEfmt \x10\0\0\0\x01\0\x01\0\x80\xBB\0\0\0\x77\x01\0\x02\0\x10\0data\x06\0\0\0\x64\0\x38\xFF\x2C\x01";
-
-/// The samples 100, -3, 5, and half of each, rounded to the nearest, a half upward: 50, -1, 3.
-const SMALL: &[u8] =
-    b"RIFF\x2A\0\0\0WAVEfmt \x10\0\0\0\x01\0\x01\0\x80\xBB\0\0\0\x77\x01\0\x02\0\x10\0data\x06\0\0\0\x64\0\xFD\xFF\x05\0";
-
-const SMALL_HALVED: &[u8] =
-    b"RIFF\x2A\0\0\0WAVEfmt \x10\0\0\0\x01\0\x01\0\x80\xBB\0\0\0\x77\x01\0\x02\0\x10\0data\x06\0\0\0\x32\0\xFF\xFF\x03\0";
-
-/// A file without frames.
-const NO_FRAMES: &[u8] =
-    b"RIFF\x24\0\0\0WAVEfmt \x10\0\0\0\x01\0\x01\0\x80\xBB\0\0\0\x77\x01\0\x02\0\x10\0data\0\0\0\0";
-
-/// The frames (100, -3) and (5, 6), and their sums 97 and 11.
-const TWO_CHANNELS: &[u8] =
-    b"RIFF\x2C\0\0\0WAVEfmt \x10\0\0\0\x01\0\x02\0\x80\xBB\0\0\0\xEE\x02\0\x04\0\x10\0data\x08\0\0\0\x64\0\xFD\xFF\x05\0\x06\0";
-
-const SUMMED: &[u8] =
-    b"RIFF\x28\0\0\0WAVEfmt \x10\0\0\0\x01\0\x01\0\x80\xBB\0\0\0\x77\x01\0\x02\0\x10\0data\x04\0\0\0\x61\0\x0B\0";
-
-/// One frame of 8 bits, the greatest sample, and its pad byte.
-const ONE_BYTE: &[u8] =
-    b"RIFF\x26\0\0\0WAVEfmt \x10\0\0\0\x01\0\x01\0\x80\xBB\0\0\x80\xBB\0\0\x01\0\x08\0data\x01\0\0\0\xFF\0";
-
-/// The samples 128, 127, -128 of 24 bits, and 1, 0, 0, to which they are rounded in 16 bits.
-const OF_24_BITS: &[u8] =
-    b"RIFF\x2E\0\0\0WAVEfmt \x10\0\0\0\x01\0\x01\0\x80\xBB\0\0\x80\x32\x02\0\x03\0\x18\0data\x09\0\0\0\x80\0\0\x7F\0\0\x80\xFF\xFF\0";
-
-const IN_16_BITS: &[u8] =
-    b"RIFF\x2A\0\0\0WAVEfmt \x10\0\0\0\x01\0\x01\0\x80\xBB\0\0\0\x77\x01\0\x02\0\x10\0data\x06\0\0\0\x01\0\0\0\0\0";
-
-/// The samples 100, -200, 300 and a tail of two zeros.
-const WITH_TAIL: &[u8] =
-    b"RIFF\x2E\0\0\0WAVEfmt \x10\0\0\0\x01\0\x01\0\x80\xBB\0\0\0\x77\x01\0\x02\0\x10\0data\x0A\0\0\0\x64\0\x38\xFF\x2C\x01\0\0\0\0";
-
-/// An insert of 5 samples beside a straight connection, a sample of 1000, and its answer; without the latency 2000 alone.
-const INSERT: &[u8] =
-    b"{\"FILTERGRAPH\":{\"FILTER\":[{\"uid\":1,\"kind\":\"input\",\"channels\":1},{\"uid\":2,\"kind\":\"output\",\"channels\":1},{\"uid\":3,\"kind\":\"insert\",\"channels\":1,\"samples\":5}],\"CONNECTION\":[{\"srcFilter\":1,\"srcChannel\":0,\"dstFilter\":3,\"dstChannel\":0},{\"srcFilter\":3,\"srcChannel\":0,\"dstFilter\":2,\"dstChannel\":0},{\"srcFilter\":1,\"srcChannel\":0,\"dstFilter\":2,\"dstChannel\":0}]}}";
-
-const ONE_SAMPLE: &[u8] =
-    b"RIFF\x26\0\0\0WAVEfmt \x10\0\0\0\x01\0\x01\0\x80\xBB\0\0\0\x77\x01\0\x02\0\x10\0data\x02\0\0\0\xE8\x03";
-
-const ALIGNED: &[u8] =
-    b"RIFF\x30\0\0\0WAVEfmt \x10\0\0\0\x01\0\x01\0\x80\xBB\0\0\0\x77\x01\0\x02\0\x10\0data\x0C\0\0\0\0\0\0\0\0\0\0\0\0\0\xD0\x07";
-
-const COMPENSATED: &[u8] =
-    b"RIFF\x26\0\0\0WAVEfmt \x10\0\0\0\x01\0\x01\0\x80\xBB\0\0\0\x77\x01\0\x02\0\x10\0data\x02\0\0\0\xD0\x07";
-
-/// Two nodes and no connection: whatever comes in, silence goes out.
-const OPEN: &[u8] =
-    b"{\"FILTERGRAPH\":{\"CONNECTION\":[],\"FILTER\":[{\"channels\":1,\"kind\":\"input\",\"uid\":1},{\"channels\":1,\"kind\":\"output\",\"uid\":2}]}}";
-
-const THREE_ZEROS: &[u8] =
-    b"RIFF\x2A\0\0\0WAVEfmt \x10\0\0\0\x01\0\x01\0\x80\xBB\0\0\0\x77\x01\0\x02\0\x10\0data\x06\0\0\0\0\0\0\0\0\0";
-
-/// A node that no connection can reach.
-const NO_NODE: &[u8] =
-    b"{\"FILTERGRAPH\":{\"FILTER\":[{\"uid\":1,\"kind\":\"input\",\"channels\":1},{\"uid\":2,\"kind\":\"output\",\"channels\":1}],\"CONNECTION\":[{\"srcFilter\":1,\"srcChannel\":0,\"dstFilter\":9,\"dstChannel\":0}]}}";
-
-/// The plan of `STRAIGHT`.
-const STRAIGHT_PLAN: &[u8] =
-    b"plan 1\nlatency 0\npath 1 2\nat 1 0\nat 2 0\nline 0 0\ntotal 0\narc 1 2 1\nbound 0\nwave 1\nwave 2\nhome 1 0 0\nchannels 1\npeak 0\nend\n";
-
-/// The same with a channel too many.
-const TWO_CHANNELS_PLAN: &[u8] =
-    b"plan 1\nlatency 0\npath 1 2\nat 1 0\nat 2 0\nline 0 0\ntotal 0\narc 1 2 1\nbound 0\nwave 1\nwave 2\nhome 1 0 0\nchannels 2\npeak 0\nend\n";
-
-/// A text whose third line is bad.
-const BAD_PLAN: &[u8] = b"plan 1\nlatency 0\npath 1  2\n";
-
-/// The plan of `OPEN`, of which only the output node is live.
-const OPEN_PLAN: &[u8] =
-    b"plan 1\nlatency 0\npath 2\nat 2 0\ntotal 0\nbound 0\nwave 2\nchannels 0\npeak 0\nend\n";
-
-/// A file of these tests.
-fn named(name: &str) -> &'static [u8] {
-    match name {
-        "straight" => STRAIGHT,
-        "half" => HALF,
-        "sum" => SUM,
-        "insert" => INSERT,
-        "open" => OPEN,
-        "no node" => NO_NODE,
-        "no JSON" => b"{",
-        "three frames" => THREE_FRAMES,
-        "no frames" => NO_FRAMES,
-        "small" => SMALL,
-        "small halved" => SMALL_HALVED,
-        "two channels" => TWO_CHANNELS,
-        "summed" => SUMMED,
-        "one byte" => ONE_BYTE,
-        "of 24 bits" => OF_24_BITS,
-        "in 16 bits" => IN_16_BITS,
-        "with tail" => WITH_TAIL,
-        "one sample" => ONE_SAMPLE,
-        "aligned" => ALIGNED,
-        "compensated" => COMPENSATED,
-        "three zeros" => THREE_ZEROS,
-        "no WAVE" => b"RIFF",
-        "straight plan" => STRAIGHT_PLAN,
-        "two channels plan" => TWO_CHANNELS_PLAN,
-        "bad plan" => BAD_PLAN,
-        "open plan" => OPEN_PLAN,
-        "yes" => b"yes\n",
-        "no" => b"no peak 0\n",
-        _ => b"",
-    }
-}
-
-/// A folder with a graph and a file, and with room for an output, in which these calls fail.
-fn folder(
-    alloc: Global,
-    graph: &str,
-    input: &str,
-    fails: &[u64],
-) -> Result<MemoryFolder, AllocError> {
-    let mut folder = MemoryFolder::new(alloc, List::from_slice(alloc, fails)?)?;
-    folder.put_file("g.json", named(graph))?;
-    folder.put_file("in.wav", named(input))?;
-    folder.make_room("out.wav", 100)?;
-    Ok(folder)
+/// A run over files in memory, and row by row what fails and what is left.
+struct Table {
+    /// The words of the command line.
+    line: &'static str,
+    /// What `g.json` holds.
+    graph: &'static [u8],
+    /// What `in.wav` holds, the input or a plan.
+    beside: &'static [u8],
+    /// How many bytes `out.wav` has room for.
+    room: u64,
+    /// The output whole.
+    output: &'static [u8],
+    /// The report whole.
+    report: &'static [u8],
+    /// In each row the numbers of the calls that fail, those of the folder, or `put` for that of the report; the
+    /// status and the end; the faults of reading, writing and reporting; whether a plan is handed back, and the
+    /// frames of the engine; and how many first bytes there are of the report and of the output.
+    rows: &'static str,
 }
 
 /// The words of a command line.
@@ -154,13 +38,39 @@ fn words(alloc: Global, line: &str) -> Result<Vec<String>, AllocError> {
     Ok(words)
 }
 
-/// What a run hands back, as the tests ask for it: the engine's frames are 0 where there is none.
+/// The numbers of a text; other words in it are none.
+fn numbers(alloc: Global, text: &str) -> Result<List<u64>, AllocError> {
+    let mut numbers = List::new(alloc);
+    for word in text.split(' ') {
+        if let Ok(number) = word.parse::<u64>() {
+            numbers.push(number)?;
+        }
+    }
+    Ok(numbers)
+}
+
+/// The files of a table, in a folder where these calls fail.
+fn folder_of(alloc: Global, table: &Table, failing: &str) -> Result<MemoryFolder, AllocError> {
+    let mut folder = MemoryFolder::new(alloc, numbers(alloc, failing)?)?;
+    folder.put_file("g.json", table.graph)?;
+    folder.put_file("in.wav", table.beside)?;
+    folder.make_room("out.wav", table.room)?;
+    Ok(folder)
+}
+
+/// An empty report, whose one call may fail.
+fn report_of(alloc: Global, failing: &str) -> Result<MemorySink, AllocError> {
+    let fails: &[u64] = if failing == "put" { &[0] } else { &[] };
+    MemorySink::new(alloc, List::from_slice(alloc, fails)?, 1000)
+}
+
+/// What a run hands back, as the tests ask for it.
 #[derive(Drop)]
 struct Told {
     status: u8,
     end: End,
     is_planned: bool,
-    frames: u64,
+    frames: Option<u64>,
 }
 
 /// What a run hands back, in short.
@@ -172,8 +82,8 @@ fn in_short(run: Run) -> Told {
         engine,
     } = run;
     let frames = match &engine {
-        Some(engine) => engine.frames(),
-        None => 0,
+        Some(engine) => Some(engine.frames()),
+        None => None,
     };
     Told {
         status,
@@ -184,7 +94,7 @@ fn in_short(run: Run) -> Told {
 }
 
 /// Runs a command line over a folder and a report.
-fn run_line<R: Abort + Threads + Sync + AllocGlobal>(
+fn run_line<R: Threads + Sync + AllocGlobal>(
     rt: &R,
     line: &str,
     folder: &mut MemoryFolder,
@@ -195,226 +105,319 @@ fn run_line<R: Abort + Threads + Sync + AllocGlobal>(
     Ok(in_short(run(rt, alloc, words, folder, report)))
 }
 
-/// The command line, the graph, the input and the output.
-const RENDERED: &str = "\
-render g.json in.wav out.wav > straight > three frames > three frames
-render g.json in.wav out.wav > straight > no frames > no frames
-render g.json in.wav out.wav > open > three frames > three zeros
-render g.json in.wav out.wav > straight > one byte > one byte
-render g.json in.wav out.wav > half > small > small halved
-render g.json in.wav out.wav > sum > two channels > summed
-render g.json in.wav out.wav --bits 16 > straight > of 24 bits > in 16 bits
-render --tail=2 g.json in.wav out.wav > straight > three frames > with tail
-render g.json in.wav out.wav --waves --cuts 2,1 > insert > one sample > aligned
-render g.json --compensate in.wav out.wav --block 1 > insert > one sample > compensated";
-
-#[test]
-fn examples_in_their_bytes(rt: HostRuntime) -> Result<(), Fail> {
-    let alloc = rt.alloc();
-    for case in RENDERED.lines() {
-        let mut parts = case.split(" > ");
-        let line = parts.next().unwrap_or("");
-        let graph = parts.next().unwrap_or("");
-        let input = parts.next().unwrap_or("");
-        let output = parts.next().unwrap_or("");
-        let mut folder = folder(alloc, graph, input, &[])?;
-        let mut report = MemorySink::new(alloc, List::new(alloc), 1000)?;
-        let run = run_line(&rt, line, &mut folder, &mut report)?;
-        assert_eq!(rt; run.status, 0, "{case}");
-        assert_eq!(rt; folder.file("out.wav"), Some(named(output)), "{case}");
-        assert_eq!(rt; folder.file("g.json"), Some(named(graph)), "{case}");
-        assert_eq!(rt; folder.file("in.wav"), Some(named(input)), "{case}");
+/// A number, or that there is none.
+fn number_or_none(alloc: Global, number: Option<u64>) -> Result<String, AllocError> {
+    match number {
+        Some(number) => format!(in alloc; "{number}"),
+        None => String::from_str(alloc, "none"),
     }
-    Ok(())
 }
 
-/// The command line, the graph, the file beside it, the status, and what is reported.
-const REPORTED: &str = "\
-render g.json in.wav out.wav > straight > three frames > 0 > straight plan
-compile g.json > straight > three frames > 0 > straight plan
-compile g.json > open >  > 0 > open plan
-check g.json in.wav > straight > straight plan > 0 > yes
-check g.json in.wav > straight > two channels plan > 1 > no
-check g.json in.wav > straight > bad plan > 9 > nothing
-compile g.json > no node >  > 3 > nothing";
-
-#[test]
-fn reports_in_their_bytes(rt: HostRuntime) -> Result<(), Fail> {
-    let alloc = rt.alloc();
-    for case in REPORTED.lines() {
-        let mut parts = case.split(" > ");
-        let line = parts.next().unwrap_or("");
-        let graph = parts.next().unwrap_or("");
-        let input = parts.next().unwrap_or("");
-        let status = parts.next().unwrap_or("");
-        let text = parts.next().unwrap_or("");
-        let mut folder = folder(alloc, graph, input, &[])?;
-        let mut report = MemorySink::new(alloc, List::new(alloc), 1000)?;
-        let run = run_line(&rt, line, &mut folder, &mut report)?;
-        let told = format!(in alloc; "{}", run.status)?;
-        assert_eq!(rt; told.as_str(), status, "{case}");
-        assert_eq!(rt; report.bytes(), named(text), "{case}");
-        assert_eq!(rt; report.faults(), 0, "{case}");
+/// How many first bytes of the whole there are.
+fn part_of(alloc: Global, bytes: Option<&[u8]>, whole: &[u8]) -> Result<String, AllocError> {
+    match bytes {
+        Some(bytes) if whole.starts_with(bytes) => number_or_none(alloc, Some(bytes.len() as u64)),
+        Some(_) => String::from_str(alloc, "other bytes"),
+        None => number_or_none(alloc, None),
     }
-    Ok(())
 }
 
-#[test]
-fn a_demonstration(rt: HostRuntime) -> Result<(), Fail> {
-    let alloc = rt.alloc();
-    let mut folder = MemoryFolder::new(alloc, List::new(alloc))?;
-    let mut report = MemorySink::new(alloc, List::new(alloc), 1000)?;
-    let run = run_line(&rt, "demo 0 3", &mut folder, &mut report)?;
-    assert_eq!(rt; run.status, 0);
-    assert_eq!(rt; report.bytes(), DEMONSTRATION);
-    Ok(())
+/// How a run ended, and what it hands back.
+fn told_in_words(alloc: Global, told: &Told) -> Result<String, AllocError> {
+    let frames = number_or_none(alloc, told.frames)?;
+    let plan = if told.is_planned { "a plan" } else { "no plan" };
+    format!(in alloc; "{} {}, {plan}, frames {frames}", told.status, told.end)
 }
 
-/// What comes of the demonstration of three nodes.
-const DEMONSTRATION: &[u8] =
-    b"nodes 3\nconnections 2\nlatency 0\ntotal 0\nchannels 1\nframes 4800 sum 1213100\n";
-
-/// The input of `render --cuts 2,1`, the call of the folder that fails, and the status, the faults of reading, writing
-/// and reporting, and how many bytes of the output are there.
-const FAILING: &str = "\
-one byte > 0 > 5 1 0 0 none
-one byte > 1 > 5 1 0 0 none
-one byte > 2 > 5 1 0 0 none
-one byte > 3 > 5 1 0 0 none
-one byte > 4 > 5 1 0 0 none
-one byte > 5 > 5 1 0 0 none
-one byte > 6 > 5 1 0 0 none
-one byte > 7 > 6 0 1 0 none
-one byte > 8 > 6 0 1 0 22
-one byte > 9 > 5 1 0 0 44
-one byte > 10 > 6 0 1 0 44
-one byte > 11 > 6 0 1 0 45
-one byte > 12 > 0 0 0 0 46
-three frames > 10 > 6 0 1 0 46
-three frames > 11 > 5 1 0 0 48
-three frames > 12 > 6 0 1 0 49
-three frames > 13 > 0 0 0 0 50";
-
-/// Status, faults, and how many bytes of the output are there.
-fn outcome(
+/// What is outside after a run.
+fn left_in_words(
     alloc: Global,
-    run: &Told,
+    table: &Table,
     folder: &MemoryFolder,
     report: &MemorySink,
 ) -> Result<String, AllocError> {
-    let (status, reads, writes) = (run.status, folder.read_faults(), folder.write_faults());
-    let reports = report.faults();
-    match folder.file("out.wav") {
-        Some(output) => {
-            let kept = output.len();
-            format!(in alloc; "{status} {reads} {writes} {reports} {kept}")
-        }
-        None => format!(in alloc; "{status} {reads} {writes} {reports} none"),
-    }
+    let reported = part_of(alloc, Some(report.bytes()), table.report)?;
+    let output = part_of(alloc, folder.file("out.wav"), table.output)?;
+    let (reads, writes, reports) = (folder.read_faults(), folder.write_faults(), report.faults());
+    format!(in alloc; "faults {reads} {writes} {reports}, report {reported}, output {output}")
 }
 
-#[test]
-fn each_call_of_the_folder_fails_in_turn(rt: HostRuntime) -> Result<(), Fail> {
+/// The files that are read hold what they held.
+fn is_kept(table: &Table, folder: &MemoryFolder) -> bool {
+    folder.file("g.json") == Some(table.graph) && folder.file("in.wav") == Some(table.beside)
+}
+
+/// What is left of a run in which these calls fail.
+fn outcome_of<R: Abort + Threads + Sync + AllocGlobal>(
+    rt: &R,
+    table: &Table,
+    failing: &str,
+) -> Result<String, AllocError> {
     let alloc = rt.alloc();
-    for case in FAILING.lines() {
-        let mut parts = case.split(" > ");
-        let input = parts.next().unwrap_or("");
-        let call = parts.next().unwrap_or("").parse::<u64>().unwrap_or(0);
+    let mut folder = folder_of(alloc, table, failing)?;
+    let mut report = report_of(alloc, failing)?;
+    let told = run_line(rt, table.line, &mut folder, &mut report)?;
+    assert!(rt; is_kept(table, &folder), "{failing}");
+    let told = told_in_words(alloc, &told)?;
+    let left = left_in_words(alloc, table, &folder, &report)?;
+    format!(in alloc; "{told}, {left}")
+}
+
+/// Runs each row of a table.
+fn each_row<R: Abort + Threads + Sync + AllocGlobal>(
+    rt: &R,
+    table: &Table,
+) -> Result<(), AllocError> {
+    for row in table.rows.lines() {
+        let mut parts = row.split(" > ");
+        let failing = parts.next().unwrap_or("");
         let wanted = parts.next().unwrap_or("");
-        let mut folder = folder(alloc, "straight", input, &[call])?;
-        let mut report = MemorySink::new(alloc, List::new(alloc), 1000)?;
-        let run = run_line(
-            &rt,
-            "render g.json in.wav out.wav --cuts 2,1",
-            &mut folder,
-            &mut report,
-        )?;
-        let outcome = outcome(alloc, &run, &folder, &report)?;
-        assert_eq!(rt; outcome.as_str(), wanted, "{case}");
-        let output = folder.file("out.wav").unwrap_or(b"");
-        assert_eq!(rt; Some(output), named(input).get(..output.len()), "{case}");
-        assert_eq!(rt; folder.file("g.json"), Some(STRAIGHT), "{case}");
-        assert_eq!(rt; folder.file("in.wav"), Some(named(input)), "{case}");
+        let outcome = outcome_of(rt, table, failing)?;
+        assert_eq!(rt; outcome.as_str(), wanted, "{failing}");
     }
     Ok(())
 }
 
-/// The command line, the file beside the graph, and the outcome where the report has room for 9 bytes.
-const UNREPORTED: &str = "\
-render g.json in.wav out.wav > three frames > 7 0 0 1 none
-compile g.json > three frames > 7 0 0 1 none
-check g.json in.wav > two channels plan > 7 0 0 1 none
-demo 0 3 >  > 7 0 0 1 none";
+/// A straight connection from the input to the output.
+const STRAIGHT: &[u8] =
+    b"{\"FILTERGRAPH\":{\"CONNECTION\":[{\"dstChannel\":0,\"dstFilter\":2,\"srcChannel\":0,\"srcFilter\":1}],\"FILTER\":[{\"channels\":1,\"kind\":\"input\",\"uid\":1},{\"channels\":1,\"kind\":\"output\",\"uid\":2}]}}";
+
+const STRAIGHT_PLAN: &[u8] =
+    b"plan 1\nlatency 0\npath 1 2\nat 1 0\nat 2 0\nline 0 0\ntotal 0\narc 1 2 1\nbound 0\nwave 1\nwave 2\nhome 1 0 0\nchannels 1\npeak 0\nend\n";
+
+/// The same with a channel too many.
+const TWO_CHANNELS_PLAN: &[u8] =
+    b"plan 1\nlatency 0\npath 1 2\nat 1 0\nat 2 0\nline 0 0\ntotal 0\narc 1 2 1\nbound 0\nwave 1\nwave 2\nhome 1 0 0\nchannels 2\npeak 0\nend\n";
+
+/// The samples 100, -200, 300 of 16 bits, mono, 48,000 frames a second.
+const THREE_FRAMES: &[u8] =
+    b"RIFF\x2A\0\0\0WAVEfmt \x10\0\0\0\x01\0\x01\0\x80\xBB\0\0\0\x77\x01\0\x02\0\x10\0data\x06\0\0\0\x64\0\x38\xFF\x2C\x01";
+
+/// A finite impulse response of the taps 1, 2, 1 and of a latency of 1.
+const FIR: &[u8] =
+    b"{\"FILTERGRAPH\":{\"FILTER\":[{\"uid\":1,\"kind\":\"input\",\"channels\":1},{\"uid\":2,\"kind\":\"output\",\"channels\":1},{\"uid\":3,\"kind\":\"fir\",\"channels\":1,\"taps\":[1,2,1],\"shift\":0,\"latency\":1}],\"CONNECTION\":[{\"srcFilter\":1,\"srcChannel\":0,\"dstFilter\":3,\"dstChannel\":0},{\"srcFilter\":3,\"srcChannel\":0,\"dstFilter\":2,\"dstChannel\":0}]}}";
+
+const FIR_PLAN: &[u8] =
+    b"plan 1\nlatency 1\npath 1 3 2\nat 1 0\nat 2 1\nat 3 0\nline 0 0\nline 1 0\ntotal 0\narc 1 3 1\narc 3 2 1\nbound 0\nwave 1\nwave 3\nwave 2\nhome 1 0 0\nhome 3 0 0\nchannels 1\npeak 0\nend\n";
+
+/// The samples 100, -3, 5, and what it makes of them: 100, 197, 99, 7.
+const SMALL: &[u8] =
+    b"RIFF\x2A\0\0\0WAVEfmt \x10\0\0\0\x01\0\x01\0\x80\xBB\0\0\0\x77\x01\0\x02\0\x10\0data\x06\0\0\0\x64\0\xFD\xFF\x05\0";
+
+const FILTERED: &[u8] =
+    b"RIFF\x2C\0\0\0WAVEfmt \x10\0\0\0\x01\0\x01\0\x80\xBB\0\0\0\x77\x01\0\x02\0\x10\0data\x08\0\0\0\x64\0\xC5\0\x63\0\x07\0";
+
+/// Four frames in blocks of 2, 1 and 1, the last of which is silence and so not read.
+const RENDER: Table = Table {
+    line: "render g.json in.wav out.wav --cuts 2,1",
+    graph: FIR,
+    beside: SMALL,
+    room: 100,
+    output: FILTERED,
+    report: FIR_PLAN,
+    rows: "\
+0 > 5 a read failed, no plan, frames none, faults 1 0 0, report 0, output none
+1 > 5 a read failed, no plan, frames none, faults 1 0 0, report 0, output none
+2 > 5 a read failed, no plan, frames none, faults 1 0 0, report 0, output none
+3 > 5 a read failed, no plan, frames none, faults 1 0 0, report 0, output none
+4 > 5 a read failed, no plan, frames none, faults 1 0 0, report 0, output none
+5 > 5 a read failed, no plan, frames none, faults 1 0 0, report 0, output none
+6 > 5 a read failed, no plan, frames none, faults 1 0 0, report 0, output none
+put > 7 the report failed, a plan, frames 0, faults 0 0 1, report 84, output none
+7 > 6 a write failed, a plan, frames 0, faults 0 1 0, report 168, output none
+8 > 6 a write failed, a plan, frames 0, faults 0 1 0, report 168, output 22
+9 > 5 a read failed, a plan, frames 0, faults 1 0 0, report 168, output 44
+10 > 6 a write failed, a plan, frames 2, faults 0 1 0, report 168, output 46
+11 > 5 a read failed, a plan, frames 2, faults 1 0 0, report 168, output 48
+12 > 6 a write failed, a plan, frames 3, faults 0 1 0, report 168, output 49
+13 > 6 a write failed, a plan, frames 4, faults 0 1 0, report 168, output 51
+14 > 0 done, a plan, frames 4, faults 0 0 0, report 168, output 52
+0 1 2 3 4 5 6 7 8 9 10 11 12 13 put > 5 a read failed, no plan, frames none, faults 1 0 0, report 0, output none",
+};
 
 #[test]
-fn the_report_fails(rt: HostRuntime) -> Result<(), Fail> {
-    let alloc = rt.alloc();
-    for case in UNREPORTED.lines() {
-        let mut parts = case.split(" > ");
-        let line = parts.next().unwrap_or("");
-        let input = parts.next().unwrap_or("");
-        let wanted = parts.next().unwrap_or("");
-        let mut folder = folder(alloc, "straight", input, &[])?;
-        let mut report = MemorySink::new(alloc, List::from_slice(alloc, &[0])?, 9)?;
-        let run = run_line(&rt, line, &mut folder, &mut report)?;
-        let outcome = outcome(alloc, &run, &folder, &report)?;
-        assert_eq!(rt; outcome.as_str(), wanted, "{case}");
-        assert!(rt; run.is_planned, "{case}");
-    }
+fn render_where_each_call_fails(rt: HostRuntime) -> Result<(), Fail> {
+    each_row(&rt, &RENDER)?;
     Ok(())
 }
 
+const COMPILE: Table = Table {
+    line: "compile g.json",
+    graph: FIR,
+    beside: SMALL,
+    room: 100,
+    output: b"",
+    report: FIR_PLAN,
+    rows: "\
+0 > 5 a read failed, no plan, frames none, faults 1 0 0, report 0, output none
+1 > 5 a read failed, no plan, frames none, faults 1 0 0, report 0, output none
+put > 7 the report failed, a plan, frames none, faults 0 0 1, report 84, output none
+2 > 0 done, a plan, frames none, faults 0 0 0, report 168, output none",
+};
+
+const CHECK: Table = Table {
+    line: "check g.json in.wav",
+    graph: STRAIGHT,
+    beside: STRAIGHT_PLAN,
+    room: 100,
+    output: b"",
+    report: b"yes\n",
+    rows: "\
+0 > 5 a read failed, no plan, frames none, faults 1 0 0, report 0, output none
+1 > 5 a read failed, no plan, frames none, faults 1 0 0, report 0, output none
+2 > 5 a read failed, no plan, frames none, faults 1 0 0, report 0, output none
+3 > 5 a read failed, no plan, frames none, faults 1 0 0, report 0, output none
+put > 7 the report failed, a plan, frames none, faults 0 0 1, report 2, output none
+4 > 0 done, a plan, frames none, faults 0 0 0, report 4, output none",
+};
+
+const CHECK_OF_ANOTHER: Table = Table {
+    line: "check g.json in.wav",
+    graph: STRAIGHT,
+    beside: TWO_CHANNELS_PLAN,
+    room: 100,
+    output: b"",
+    report: b"no peak 0\n",
+    rows: "\
+put > 7 the report failed, a plan, frames none, faults 0 0 1, report 5, output none
+4 > 1 the plan is not certified, a plan, frames none, faults 0 0 0, report 10, output none",
+};
+
+const DEMO: Table = Table {
+    line: "demo 0 3",
+    graph: STRAIGHT,
+    beside: SMALL,
+    room: 100,
+    output: b"",
+    report: b"nodes 3\nconnections 2\nlatency 0\ntotal 0\nchannels 1\nframes 4800 sum 1213100\n",
+    rows: "\
+put > 7 the report failed, a plan, frames 4800, faults 0 0 1, report 37, output none
+0 > 0 done, a plan, frames 4800, faults 0 0 0, report 75, output none",
+};
+
 #[test]
-fn nothing_is_read_after_a_refusal(rt: HostRuntime) -> Result<(), Fail> {
-    let alloc = rt.alloc();
-    let later = [2, 3, 4, 5, 6, 7, 8, 9, 10, 11, 12];
-    let mut folder = folder(alloc, "no JSON", "three frames", &later)?;
-    let mut report = MemorySink::new(alloc, List::new(alloc), 1000)?;
-    let run = run_line(
-        &rt,
-        "render g.json in.wav out.wav",
-        &mut folder,
-        &mut report,
-    )?;
-    let outcome = outcome(alloc, &run, &folder, &report)?;
-    assert_eq!(rt; outcome.as_str(), "3 0 0 0 none");
+fn the_other_modes_where_each_call_fails(rt: HostRuntime) -> Result<(), Fail> {
+    each_row(&rt, &COMPILE)?;
+    each_row(&rt, &CHECK)?;
+    each_row(&rt, &CHECK_OF_ANOTHER)?;
+    each_row(&rt, &DEMO)?;
     Ok(())
 }
 
+/// One frame of 8 bits, the greatest sample, and its pad byte.
+const ONE_BYTE: &[u8] =
+    b"RIFF\x26\0\0\0WAVEfmt \x10\0\0\0\x01\0\x01\0\x80\xBB\0\0\x80\xBB\0\0\x01\0\x08\0data\x01\0\0\0\xFF\0";
+
+/// A frame, and then a pad byte.
+const PADDED: Table = Table {
+    line: "render g.json in.wav out.wav",
+    graph: STRAIGHT,
+    beside: ONE_BYTE,
+    room: 100,
+    output: ONE_BYTE,
+    report: STRAIGHT_PLAN,
+    rows: "\
+10 > 6 a write failed, a plan, frames 1, faults 0 1 0, report 122, output 44
+11 > 6 a write failed, a plan, frames 1, faults 0 1 0, report 122, output 45
+12 > 0 done, a plan, frames 1, faults 0 0 0, report 122, output 46",
+};
+
+/// The room takes the head alone.
+const NO_ROOM: Table = Table {
+    line: "render g.json in.wav out.wav --cuts 2,1",
+    graph: STRAIGHT,
+    beside: THREE_FRAMES,
+    room: 44,
+    output: THREE_FRAMES,
+    report: STRAIGHT_PLAN,
+    rows: "none > 6 a write failed, a plan, frames 2, faults 0 1 0, report 122, output 44",
+};
+
+/// An insert of 5 samples beside a straight connection, a sample of 1000, and its answer without the latency: 2000.
+const INSERT: &[u8] =
+    b"{\"FILTERGRAPH\":{\"FILTER\":[{\"uid\":1,\"kind\":\"input\",\"channels\":1},{\"uid\":2,\"kind\":\"output\",\"channels\":1},{\"uid\":3,\"kind\":\"insert\",\"channels\":1,\"samples\":5}],\"CONNECTION\":[{\"srcFilter\":1,\"srcChannel\":0,\"dstFilter\":3,\"dstChannel\":0},{\"srcFilter\":3,\"srcChannel\":0,\"dstFilter\":2,\"dstChannel\":0},{\"srcFilter\":1,\"srcChannel\":0,\"dstFilter\":2,\"dstChannel\":0}]}}";
+
+const INSERT_PLAN: &[u8] =
+    b"plan 1\nlatency 5\npath 1 3 2\nat 1 0\nat 2 5\nat 3 0\nline 0 0\nline 1 0\nline 2 5\ntotal 5\narc 1 3 2\narc 3 2 2\nbound 5\nwave 1\nwave 3\nwave 2\nhome 1 0 0\nhome 3 0 1\nchannels 2\npeak 1\nend\n";
+
+const ONE_SAMPLE: &[u8] =
+    b"RIFF\x26\0\0\0WAVEfmt \x10\0\0\0\x01\0\x01\0\x80\xBB\0\0\0\x77\x01\0\x02\0\x10\0data\x02\0\0\0\xE8\x03";
+
+const COMPENSATED: &[u8] =
+    b"RIFF\x26\0\0\0WAVEfmt \x10\0\0\0\x01\0\x01\0\x80\xBB\0\0\0\x77\x01\0\x02\0\x10\0data\x02\0\0\0\xD0\x07";
+
+/// The latency is longer than the file and left out: six frames are rendered, each a block, and the last is written.
+const LATE: Table = Table {
+    line: "render g.json in.wav out.wav --compensate --block 1",
+    graph: INSERT,
+    beside: ONE_SAMPLE,
+    room: 100,
+    output: COMPENSATED,
+    report: INSERT_PLAN,
+    rows: "\
+9 > 5 a read failed, a plan, frames 0, faults 1 0 0, report 177, output 44
+10 > 6 a write failed, a plan, frames 6, faults 0 1 0, report 177, output 45
+11 > 0 done, a plan, frames 6, faults 0 0 0, report 177, output 46",
+};
+
+/// Two nodes and no connection: whatever comes in, silence goes out, and only the output node is live.
+const OPEN: &[u8] =
+    b"{\"FILTERGRAPH\":{\"CONNECTION\":[],\"FILTER\":[{\"channels\":1,\"kind\":\"input\",\"uid\":1},{\"channels\":1,\"kind\":\"output\",\"uid\":2}]}}";
+
+const OPEN_PLAN: &[u8] =
+    b"plan 1\nlatency 0\npath 2\nat 2 0\ntotal 0\nbound 0\nwave 2\nchannels 0\npeak 0\nend\n";
+
+const THREE_ZEROS: &[u8] =
+    b"RIFF\x2A\0\0\0WAVEfmt \x10\0\0\0\x01\0\x01\0\x80\xBB\0\0\0\x77\x01\0\x02\0\x10\0data\x06\0\0\0\0\0\0\0\0\0";
+
+/// A live node, but no live input.
+const SILENT: Table = Table {
+    line: "render g.json in.wav out.wav --cuts 2,1 --waves",
+    graph: OPEN,
+    beside: THREE_FRAMES,
+    room: 100,
+    output: THREE_ZEROS,
+    report: OPEN_PLAN,
+    rows: "\
+11 > 5 a read failed, a plan, frames 2, faults 1 0 0, report 76, output 48
+12 > 6 a write failed, a plan, frames 3, faults 0 1 0, report 76, output 49
+13 > 0 done, a plan, frames 3, faults 0 0 0, report 76, output 50",
+};
+
 #[test]
-fn a_room_too_small_for_the_frames(rt: HostRuntime) -> Result<(), Fail> {
-    let alloc = rt.alloc();
-    let mut folder = MemoryFolder::new(alloc, List::new(alloc))?;
-    folder.put_file("g.json", STRAIGHT)?;
-    folder.put_file("in.wav", THREE_FRAMES)?;
-    folder.make_room("out.wav", 44)?;
-    let mut report = MemorySink::new(alloc, List::new(alloc), 1000)?;
-    let run = run_line(
-        &rt,
-        "render g.json in.wav out.wav",
-        &mut folder,
-        &mut report,
-    )?;
-    assert_eq!(rt; run.end, End::WriteFault);
-    assert_eq!(rt; folder.file("out.wav"), THREE_FRAMES.get(..44));
-    assert_eq!(rt; report.bytes(), STRAIGHT_PLAN);
+fn files_that_break_off(rt: HostRuntime) -> Result<(), Fail> {
+    each_row(&rt, &PADDED)?;
+    each_row(&rt, &NO_ROOM)?;
+    each_row(&rt, &LATE)?;
+    each_row(&rt, &SILENT)?;
     Ok(())
 }
 
+/// Nothing more is read of a graph that is no JSON.
+const NO_JSON: Table = Table {
+    line: "render g.json in.wav out.wav",
+    graph: b"{",
+    beside: THREE_FRAMES,
+    room: 100,
+    output: b"",
+    report: b"",
+    rows: "2 3 4 5 6 7 8 > 3 graph: no JSON text, no plan, frames none, faults 0 0 0, report 0, output none",
+};
+
+/// A file that is not there is no fault.
+const NO_INPUT: Table = Table {
+    line: "render g.json none.wav out.wav",
+    graph: STRAIGHT,
+    beside: THREE_FRAMES,
+    room: 100,
+    output: b"",
+    report: b"",
+    rows: "none > 5 a read failed, no plan, frames none, faults 0 0 0, report 0, output none",
+};
+
 #[test]
-fn a_second_block_that_is_not_read(rt: HostRuntime) -> Result<(), Fail> {
-    let alloc = rt.alloc();
-    let mut folder = folder(alloc, "straight", "three frames", &[11])?;
-    let mut report = MemorySink::new(alloc, List::new(alloc), 1000)?;
-    let run = run_line(
-        &rt,
-        "render g.json in.wav out.wav --cuts 2,1",
-        &mut folder,
-        &mut report,
-    )?;
-    assert_eq!(rt; run.end, End::ReadFault);
-    assert_eq!(rt; run.frames, 2);
-    assert_eq!(rt; report.bytes(), STRAIGHT_PLAN);
-    assert_eq!(rt; folder.file("out.wav"), THREE_FRAMES.get(..48));
+fn refusals_that_come_first(rt: HostRuntime) -> Result<(), Fail> {
+    each_row(&rt, &NO_JSON)?;
+    each_row(&rt, &NO_INPUT)?;
     Ok(())
 }

@@ -58,13 +58,15 @@ pub fn run<T: Threads + Sync, F: Folder, R: Sink>(
     ensures kept { KeepsFiles (request_of (map string_bytes words.items)) (F.held folder.old) (F.held folder.new) }
     ensures untouched { MayHaveBegun result.end result.plan ⊎ (F.held folder.new ≡ F.held folder.old) }
 
-    // The plan that is handed back, and what the report has gained: the text of that plan, or what is said of it. A plan
-    // that was compiled is certified and has the least latency, delay and channels; and so has one that is judged yes.
+    // The plan that is handed back, and what the report has gained: the text of that plan, or what is said of it. A
+    // plan that was compiled is certified and has the least latency, delay and channels; and so has one that is
+    // judged yes.
     ensures answered { IsAnswered (request_of (map string_bytes words.items)) (F.held folder.old) result.end result.plan (R.bytes report.old) (R.bytes report.new) }
 
-    // The engine that is handed back: it keeps the graph and that plan, and stands for all frames of the input and of the
-    // silence after them, or of the demonstration; where a block could not be read, for the first of them, and the output
-    // holds the head and just those of these that are kept.
+    // The engine that is handed back: it keeps the graph and that plan, and stands for all frames of the input and of
+    // the silence after them, or of the demonstration; where a block could not be read, for the first of them, and
+    // the output holds the head and just those of these that are kept; where a write failed, for the first of them
+    // too, and the output holds what it held or a first part of what these make.
     ensures played { IsPlayed (request_of (map string_bytes words.items)) (F.held folder.old) (F.held folder.new) result.end result.plan result.engine }
 
     // Why it ended: by what the files hold, unless a call of the outside failed or there was no memory.

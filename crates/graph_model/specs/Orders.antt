@@ -1,5 +1,6 @@
 -- The order in which the nodes of a graph are taken: a topological order, the least name first
--- (Kahn, Topological sorting of large networks, 1962; Cormen, Leiserson, Rivest and Stein, Introduction to Algorithms, section 20.4).
+-- (Kahn, Topological sorting of large networks, 1962; Cormen, Leiserson, Rivest and Stein, Introduction to
+-- Algorithms, section 20.4).
 use Rattle.std.specs.Prelude.{◌≡◌, ℕ, ◌<◌, ◌≤◌, List, length, get_or}
 use Rattle.std.specs.List.{All}
 use Rattle.graph_model.specs.Graphs.{IsNode}

@@ -1,4 +1,5 @@
--- The text that is written for a graph: an object with `FILTERGRAPH` alone, in which each record has the members of its row.
+-- The text that is written for a graph: an object with `FILTERGRAPH` alone, in which each record has the members of
+-- its row.
 use Rattle.std.specs.Prelude.{ℕ, ℤ, List, [], ◌∷◌, codes, map}
 use Rattle.serde_json.specs.Data.{Data, Members, array, no_members, number, object, string, unsigned, member as with_member}
 use Rattle.serde_json.specs.Find.{of_integer}

@@ -1,5 +1,7 @@
-use crate::{Part, Place, RecordFault, read_graph, write_graph};
-use graph_model::{Connection, Graph, Kind, List, Member, Node, Refused, Uid};
+//! What no clause says: the bytes of texts, and which texts are read back.
+
+use crate::{RecordFault, read_graph, write_graph};
+use graph_model::{Connection, Graph, Kind, List, Node, Refused, Uid};
 use std::alloc::{AllocError, Global};
 use std::test::Fail;
 
@@ -20,24 +22,12 @@ fn write(alloc: Global, graph: &Graph) -> Result<Option<Vec<u8>>, AllocError> {
     Ok(Some(write_graph(alloc, graph)?))
 }
 
-fn shape(part: Part, index: u32, member: Member) -> RecordFault {
-    RecordFault::Shape {
-        place: Place {
-            part,
-            index,
-            member,
-        },
-    }
-}
-
-fn limit(part: Part, index: u32, member: Member, got: i128) -> RecordFault {
-    RecordFault::Limit {
-        place: Place {
-            part,
-            index,
-            member,
-        },
-        got,
+/// What is wrong with the bytes.
+fn fault_of(alloc: Global, bytes: &[u8]) -> Result<String, AllocError> {
+    match read_graph(alloc, bytes) {
+        Ok(_) => String::from_str(alloc, "nothing"),
+        Err(Refused::Fault(fault)) => format!(in alloc; "{fault}"),
+        Err(Refused::Memory) => Err(AllocError),
     }
 }
 
@@ -154,22 +144,29 @@ fn other_members_are_ignored_and_the_last_of_equal_names_counts(
     Ok(())
 }
 
+/// What `serde_json` does not read.
+const BROKEN: &str = "
+{
+{}{}
+{\"a\":1e400}
+{\"a\":\"\\ud800\"}
+{\"a\":\"\t\"}
+\u{feff}{}";
+
 #[test]
 fn what_serde_json_does_not_read_is_no_text(rt: HostRuntime) -> Result<(), Fail> {
     let alloc = rt.alloc();
-    let texts: [&[u8]; 8] = [
-        b"",
-        b"{",
-        b"{}{}",
-        b"{\"a\":1e400}",
-        b"{\"a\":\"\\ud800\"}",
-        b"{\"a\":\"\xff\"}",
-        b"{\"a\":\"\t\"}",
-        b"\xef\xbb\xbf{}",
-    ];
-    for text in texts {
-        assert!(rt; read(alloc, text)? == Err(RecordFault::Text));
+    for text in BROKEN.lines() {
+        assert_eq!(rt;
+            fault_of(alloc, text.as_bytes())?.as_str(),
+            "no JSON text",
+            "{text}"
+        );
     }
+    assert_eq!(rt;
+        fault_of(alloc, b"{\"a\":\"\xff\"}")?.as_str(),
+        "no JSON text"
+    );
     Ok(())
 }
 
@@ -190,114 +187,64 @@ fn nested(alloc: Global, arrays: usize) -> Result<String, AllocError> {
 fn at_most_127_levels_are_read(rt: HostRuntime) -> Result<(), Fail> {
     let alloc = rt.alloc();
     let deepest = nested(alloc, 126)?;
-    assert!(rt; read(alloc, deepest.as_bytes())?.is_ok());
+    assert_eq!(rt; fault_of(alloc, deepest.as_bytes())?.as_str(), "nothing");
     let deeper = nested(alloc, 127)?;
-    assert!(rt; read(alloc, deeper.as_bytes())? == Err(RecordFault::Text));
+    assert_eq!(rt;
+        fault_of(alloc, deeper.as_bytes())?.as_str(),
+        "no JSON text"
+    );
     Ok(())
 }
+
+/// Texts, and what is wrong with each.
+const FAULTS: &str = r#"[] > wrong form at top 0 FILTERGRAPH
+{"FILTERGRAPH":[]} > wrong form at top 0 FILTERGRAPH
+{"FILTERGRAPH":{"CONNECTION":7}} > wrong form at top 0 FILTER
+{"FILTERGRAPH":{"FILTER":[7],"CONNECTION":null}} > wrong form at top 0 CONNECTION
+{"FILTERGRAPH":{"CONNECTION":[7],"FILTER":[7]}} > wrong form at filter 0 record
+{"FILTERGRAPH":{"FILTER":[{"uid":1,"kind":"input","channels":1},{"uid":2,"kind":"reverb"}]}} > wrong form at filter 1 kind
+{"FILTERGRAPH":{"FILTER":[{"kind":"reverb","uid":-1}],"CONNECTION":[7]}} > -1 is out of range at filter 0 uid
+{"FILTERGRAPH":{"FILTER":[],"CONNECTION":[{"dstChannel":-1,"dstFilter":4294967296,"srcChannel":0,"srcFilter":1}]}} > 4294967296 is out of range at connection 0 dstFilter"#;
 
 #[test]
 fn each_fault_has_its_place(rt: HostRuntime) -> Result<(), Fail> {
     let alloc = rt.alloc();
-    let cases = [
-        (r#"[]"#, shape(Part::Top, 0, Member::Graph)),
-        (r#"{"FILTERGRAPH":[]}"#, shape(Part::Top, 0, Member::Graph)),
-        (
-            r#"{"FILTERGRAPH":{"CONNECTION":7}}"#,
-            shape(Part::Top, 0, Member::Filter),
-        ),
-        (
-            r#"{"FILTERGRAPH":{"FILTER":[7],"CONNECTION":null}}"#,
-            shape(Part::Top, 0, Member::Connection),
-        ),
-        (
-            r#"{"FILTERGRAPH":{"CONNECTION":[7],"FILTER":[7]}}"#,
-            shape(Part::Filter, 0, Member::Item),
-        ),
-        (
-            r#"{"FILTERGRAPH":{"FILTER":[{"uid":1,"kind":"input","channels":1},{"uid":2,"kind":"reverb"}]}}"#,
-            shape(Part::Filter, 1, Member::Kind),
-        ),
-        (
-            r#"{"FILTERGRAPH":{"FILTER":[{"kind":"reverb","uid":-1}],"CONNECTION":[7]}}"#,
-            limit(Part::Filter, 0, Member::Uid, -1),
-        ),
-        (
-            r#"{"FILTERGRAPH":{"FILTER":[],"CONNECTION":[{"dstChannel":-1,"dstFilter":4294967296,"srcChannel":0,"srcFilter":1}]}}"#,
-            limit(Part::Link, 0, Member::DstFilter, 4294967296),
-        ),
-    ];
-    for (text, fault) in cases {
-        assert!(rt; read(alloc, text.as_bytes())? == Err(fault), "{text}");
+    for case in FAULTS.lines() {
+        let (text, fault) = case.split_once(" > ").unwrap_or(("", ""));
+        assert_eq!(rt; fault_of(alloc, text.as_bytes())?.as_str(), fault, "{case}");
     }
     Ok(())
 }
 
-/// The fault of one node with these members beside its uid.
-fn fault_of(alloc: Global, members: &str) -> Result<Option<RecordFault>, AllocError> {
-    let text = format!(in alloc; "{{\"FILTERGRAPH\":{{\"FILTER\":[{{\"uid\":1,{members}}}]}}}}")?;
-    Ok(read(alloc, text.as_bytes())?.err())
-}
-
-#[test]
-fn a_number_that_is_not_whole_has_another_form(rt: HostRuntime) -> Result<(), Fail> {
-    let alloc = rt.alloc();
-    let shaped = Some(shape(Part::Filter, 0, Member::Gain));
-    let others = [
-        "-0",
-        "1.0",
-        "1e2",
-        "18446744073709551616",
-        "-9223372036854775809",
-        "\"1\"",
-        "null",
-    ];
-    for number in others {
-        let members = format!(in alloc; "\"kind\":\"gain\",\"channels\":1,\"gain\":{number}")?;
-        assert!(rt; fault_of(alloc, &members)? == shaped, "{number}");
-    }
-    let whole = [
-        ("9223372036854775808", 9223372036854775808),
-        ("18446744073709551615", 18446744073709551615),
-        ("-9223372036854775808", -9223372036854775808),
-        ("2147483648", 2147483648),
-        ("-2147483649", -2147483649),
-    ];
-    for (number, got) in whole {
-        let members = format!(in alloc; "\"kind\":\"gain\",\"channels\":1,\"gain\":{number}")?;
-        let fault = limit(Part::Filter, 0, Member::Gain, got);
-        assert!(rt; fault_of(alloc, &members)? == Some(fault), "{number}");
-    }
-    Ok(())
-}
+/// The members of a node beside its uid, and what is wrong first. A number that is not whole has another form.
+const MEMBERS: &str =
+    r#""kind":"fir","channels":1,"taps":[0,2147483648,null],"shift":-1 > 2147483648 is out of range at filter 0 taps
+"kind":"mixer","ins":1,"outs":1,"gains":[null,2147483648] > wrong form at filter 0 gains
+"kind":"limiter","channels":1,"threshold":-1,"lookahead":-2 > -1 is out of range at filter 0 threshold
+"kind":"biquad","channels":1,"b0":1,"b1":1,"a1":0.5,"a2":1,"shift":1,"bits":16 > wrong form at filter 0 b2
+"kind":"delay","samples":1 > wrong form at filter 0 channels
+"kind":"gain","channels":1,"gain":-0 > wrong form at filter 0 gain
+"kind":"gain","channels":1,"gain":1.0 > wrong form at filter 0 gain
+"kind":"gain","channels":1,"gain":1e2 > wrong form at filter 0 gain
+"kind":"gain","channels":1,"gain":18446744073709551616 > wrong form at filter 0 gain
+"kind":"gain","channels":1,"gain":-9223372036854775809 > wrong form at filter 0 gain
+"kind":"gain","channels":1,"gain":"1" > wrong form at filter 0 gain
+"kind":"gain","channels":1,"gain":null > wrong form at filter 0 gain
+"kind":"gain","channels":1,"gain":9223372036854775808 > 9223372036854775808 is out of range at filter 0 gain
+"kind":"gain","channels":1,"gain":18446744073709551615 > 18446744073709551615 is out of range at filter 0 gain
+"kind":"gain","channels":1,"gain":-9223372036854775808 > -9223372036854775808 is out of range at filter 0 gain
+"kind":"gain","channels":1,"gain":2147483648 > 2147483648 is out of range at filter 0 gain
+"kind":"gain","channels":1,"gain":-2147483649 > -2147483649 is out of range at filter 0 gain"#;
 
 #[test]
 fn the_first_bad_member_decides(rt: HostRuntime) -> Result<(), Fail> {
     let alloc = rt.alloc();
-    let cases = [
-        (
-            r#""kind":"fir","channels":1,"taps":[0,2147483648,null],"shift":-1"#,
-            limit(Part::Filter, 0, Member::Taps, 2147483648),
-        ),
-        (
-            r#""kind":"mixer","ins":1,"outs":1,"gains":[null,2147483648]"#,
-            shape(Part::Filter, 0, Member::Gains),
-        ),
-        (
-            r#""kind":"limiter","channels":1,"threshold":-1,"lookahead":-2"#,
-            limit(Part::Filter, 0, Member::Threshold, -1),
-        ),
-        (
-            r#""kind":"biquad","channels":1,"b0":1,"b1":1,"a1":0.5,"a2":1,"shift":1,"bits":16"#,
-            shape(Part::Filter, 0, Member::B2),
-        ),
-        (
-            r#""kind":"delay","samples":1"#,
-            shape(Part::Filter, 0, Member::Channels),
-        ),
-    ];
-    for (members, fault) in cases {
-        assert!(rt; fault_of(alloc, members)? == Some(fault), "{members}");
+    for case in MEMBERS.lines() {
+        let (members, fault) = case.split_once(" > ").unwrap_or(("", ""));
+        let text = format!(in alloc;
+            "{{\"FILTERGRAPH\":{{\"FILTER\":[{{\"uid\":1,{members}}}]}}}}"
+        )?;
+        assert_eq!(rt; fault_of(alloc, text.as_bytes())?.as_str(), fault, "{case}");
     }
     Ok(())
 }
@@ -316,41 +263,18 @@ fn too_many_records_come_before_their_forms(rt: HostRuntime) -> Result<(), Fail>
     let alloc = rt.alloc();
     let nodes = zeros(alloc, 512)?;
     let text = format!(in alloc; "{{\"FILTERGRAPH\":{{\"FILTER\":[{nodes}]}}}}")?;
-    let fault = shape(Part::Filter, 0, Member::Item);
-    assert!(rt; read(alloc, text.as_bytes())? == Err(fault));
-    let nodes = zeros(alloc, 513)?;
-    let text = format!(in alloc; "{{\"FILTERGRAPH\":{{\"FILTER\":[{nodes}],\"CONNECTION\":7}}}}")?;
-    let fault = limit(Part::Top, 0, Member::Filter, 513);
-    assert!(rt; read(alloc, text.as_bytes())? == Err(fault));
+    let fault = fault_of(alloc, text.as_bytes())?;
+    assert_eq!(rt; fault.as_str(), "wrong form at filter 0 record");
+    let text = format!(in alloc;
+        "{{\"FILTERGRAPH\":{{\"FILTER\":[{nodes},0],\"CONNECTION\":7}}}}"
+    )?;
+    let fault = fault_of(alloc, text.as_bytes())?;
+    assert_eq!(rt; fault.as_str(), "513 is out of range at top 0 FILTER");
     let links = zeros(alloc, 8193)?;
     let text = format!(in alloc;
         "{{\"FILTERGRAPH\":{{\"FILTER\":[0],\"CONNECTION\":[{links}]}}}}"
     )?;
-    let fault = limit(Part::Top, 0, Member::Connection, 8193);
-    assert!(rt; read(alloc, text.as_bytes())? == Err(fault));
-    Ok(())
-}
-
-#[test]
-fn texts_of_faults(rt: HostRuntime) -> Result<(), Fail> {
-    let alloc = rt.alloc();
-    let texts = [
-        (RecordFault::Text, "no JSON text"),
-        (
-            shape(Part::Top, 0, Member::Graph),
-            "wrong form at top 0 FILTERGRAPH",
-        ),
-        (
-            shape(Part::Filter, 3, Member::Item),
-            "wrong form at filter 3 record",
-        ),
-        (
-            limit(Part::Link, 12, Member::SrcFilter, -1),
-            "-1 is out of range at connection 12 srcFilter",
-        ),
-    ];
-    for (fault, text) in texts {
-        assert!(rt; format!(in alloc; "{fault}")?.as_str() == text, "{text}");
-    }
+    let fault = fault_of(alloc, text.as_bytes())?;
+    assert_eq!(rt; fault.as_str(), "8193 is out of range at top 0 CONNECTION");
     Ok(())
 }

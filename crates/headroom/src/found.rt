@@ -7,6 +7,7 @@ ghost use Rattle.graph_model.specs.Graphs.{node_named};
 ghost use Rattle.graph_model.specs.Sound.{Fits, IsShaped};
 ghost use Rattle.graph_model.specs.Named.{uid_at};
 ghost use Rattle.topology.specs.Answers.{IsOrderOfNodes};
+ghost use Rattle.topology.specs.Links.{AreIndexes};
 ghost use Rattle.headroom.specs.Found.{AreSourcesFound, IsFound, kept_bound, no_bound};
 ghost use Rattle.headroom.specs.Loud.{IsTooLoud};
 ghost use Rattle.headroom.specs.Answers.{AllBounded, AreBounds, IsTooLoudOf};
@@ -15,10 +16,17 @@ use crate::loud::{TooLoud, too_loud};
 use crate::outputs::outputs_of;
 use graph_model::{Bound, Connection, Graph, List, Node, Refused};
 use std::alloc::{AllocError, Global};
-use topology::index_of;
+use std::collections::HashMap;
+use topology::{index_of, indexes};
 
 /// The bound of the output channel that a connection reads.
-fn bound_over(graph: &Graph, found: &[Bound], connection: &Connection) -> u64
+fn bound_over(
+    graph: &Graph,
+    indexes: &HashMap<u32, usize>,
+    found: &[Bound],
+    connection: &Connection,
+) -> u64
+    requires indexes { AreIndexes graph.now indexes.now }
     requires shaped { IsShaped graph.now }
     requires nodes { length found.now ≡ length graph.now.nodes }
     requires connection { Contains graph.now.connections connection.now }
@@ -26,7 +34,7 @@ fn bound_over(graph: &Graph, found: &[Bound], connection: &Connection) -> u64
     ensures value { result ≡ get_or (bounds graph.now connection.now.src.0).outs connection.now.src_channel 0 }
     ensures small { result ≤ 2 ^ 46 }
 {
-    let source = &found[index_of(graph, connection.src)];
+    let source = &found[index_of(graph, indexes, connection.src)];
     source.outs.as_slice()[connection.src_channel as usize]
 }
 
@@ -34,10 +42,12 @@ fn bound_over(graph: &Graph, found: &[Bound], connection: &Connection) -> u64
 fn inputs_of(
     alloc: Global,
     graph: &Graph,
+    indexes: &HashMap<u32, usize>,
     found: &[Bound],
     node: &Node,
 ) -> Result<List<u64>, AllocError>
     requires fits { Fits graph.now }
+    requires indexes { AreIndexes graph.now indexes.now }
     requires shaped { IsShaped graph.now }
     requires nodes { length found.now ≡ length graph.now.nodes }
     requires node { node_named graph.now node.now.uid.0 ≡ Some node.now }
@@ -47,22 +57,29 @@ fn inputs_of(
     let mut ins: Vec<u64> = vec![in alloc; 0; node.ins() as usize]?;
     for connection in graph.connections.as_slice() {
         if connection.dst.0 == node.uid.0 {
-            ins[connection.dst_channel as usize] += bound_over(graph, found, connection);
+            ins[connection.dst_channel as usize] += bound_over(graph, indexes, found, connection);
         }
     }
     List::from_slice(alloc, &ins)
 }
 
 /// The bounds of a node whose sources are found, as they are kept in 64 bits.
-fn bound_of(alloc: Global, graph: &Graph, found: &[Bound], node: &Node) -> Result<Bound, AllocError>
+fn bound_of(
+    alloc: Global,
+    graph: &Graph,
+    indexes: &HashMap<u32, usize>,
+    found: &[Bound],
+    node: &Node,
+) -> Result<Bound, AllocError>
     requires fits { Fits graph.now }
+    requires indexes { AreIndexes graph.now indexes.now }
     requires shaped { IsShaped graph.now }
     requires nodes { length found.now ≡ length graph.now.nodes }
     requires node { node_named graph.now node.now.uid.0 ≡ Some node.now }
     requires sources { AreSourcesFound graph.now found.now node.now.uid.0 }
     ensures { IfOk result (λ bound. bound ≡ kept_bound (bounds graph.now node.now.uid.0)) }
 {
-    let ins = inputs_of(alloc, graph, found, node)?;
+    let ins = inputs_of(alloc, graph, indexes, found, node)?;
     let outs = outputs_of(alloc, &node.kind, ins.as_slice())?;
     Ok(Bound { ins, outs })
 }
@@ -93,11 +110,12 @@ fn found_or_loud(
     ensures { IfOk result (λ answer. MatchResult answer (λ v. AreBounds graph.now v.items × AllBounded graph.now) (IsTooLoud graph.now)) }
 {
     let nodes = graph.nodes.as_slice();
+    let indexes = indexes(alloc, graph)?;
     let mut found = none_found(alloc, nodes.len())?;
     for k in 0..order.len() {
         let index = order[k] as usize;
         let node = &nodes[index];
-        let bound = bound_of(alloc, graph, &found, node)?;
+        let bound = bound_of(alloc, graph, &indexes, &found, node)?;
         if let Some(loud) = too_loud(node.uid, &bound) {
             return Ok(Err(loud));
         }

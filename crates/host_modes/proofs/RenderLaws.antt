@@ -1,7 +1,7 @@
 -- What a rendering leaves, by how its output was written.
 use Rattle.std.proofs.Common.{◌≡◌, ◌≢◌, ℕ, ℤ, ◌+◌, ◌≤◌, ◌<◌, List, length, take, Option, Some, None, refl, sym, ◌∙◌, ap, subst, inl, inr, arith}
 use Rattle.std.proofs.Math.Seq.{take-length}
-use Rattle.std.specs.Prelude.{Result, Ok, Err, OnOk, ⊤}
+use Rattle.std.specs.Prelude.{◌⊎◌, Result, Ok, Err, OnOk, ⊤}
 use Rattle.gh_outside.specs.Causes.{Rose}
 use Rattle.gh_outside.specs.Holdings.{Holding, HeldBytes, Holds, IsPast, KeepsOthers, GainsAll}
 use Rattle.graph_model.specs.Graphs.{in_channels, out_channels}
@@ -20,9 +20,9 @@ use Rattle.command_words.specs.Rendering.{RenderRequest}
 use Rattle.command_words.specs.Requests.{render}
 use Rattle.host_modes.specs.Asked.{mode_of}
 use Rattle.host_modes.specs.Ends.{end_by}
-use Rattle.host_modes.specs.Engines.{HasEngine, HasHalted, HasPlayed, IsEngineOf}
-use Rattle.host_modes.specs.Files.{part_of, whole_of, IsReadyJob}
-use Rattle.host_modes.specs.Outputs.{all_input, first_of, output_after, output_of}
+use Rattle.host_modes.specs.Engines.{HasBroken, HasEngine, HasHalted, HasPlayed, IsEngineOf}
+use Rattle.host_modes.specs.Files.{part_of, whole_of, IsBroken, IsReadyJob}
+use Rattle.host_modes.specs.Outputs.{all_input, first_of, output_after, output_of, silent_frames}
 use Rattle.host_modes.specs.Outside.{outside}
 use Rattle.host_modes.specs.Plans.{IsBestPlan}
 use Rattle.host_modes.specs.Readings.{FindsGraph, IsBegun, IsJob, IsWritten, MayBeReady}
@@ -30,7 +30,7 @@ use Rattle.host_modes.specs.Runs.{IsRun}
 use Rattle.host_modes.specs.Works.{IsWork}
 use Rattle.host_modes.specs.declared.ends.End.TheVariants.{Done, ReadFault, WriteFault}
 use Rattle.host_modes.specs.declared.modes.render.Job.{Job}
-use Rattle.host_modes.proofs.FileLaws.{first_long, history_all, history_first, part_is, part_is_first, whole_is}
+use Rattle.host_modes.proofs.FileLaws.{first_long, history_all, history_first, part_is, part_is_first, part_of_more, whole_is, whole_splits}
 use Rattle.host_modes.proofs.RunLaws.{render_words}
 
 -- ---- what is found of a ready job
@@ -153,6 +153,32 @@ module _ (q : RenderRequest) (j : Job) (files held : Holding) (ready : IsReadyJo
       begun_with part (length part) (holds_so part holds)
       (part_is_first j.rendering j.engine.graph ready.input.found.0 head_good all_there k within ∙ ap (take (length part)) whole_so)
 
+  -- a write failed after the first k frames
+  pub told_broken : (k : ℕ) → k ≤ all_frames j.rendering.from → IsBroken j.rendering j.engine.graph ready.input.found.0 k (Some files) (Some held) → IsBegun q (Some files) (Some held)
+  told_broken k within (inl part) =
+      let w = whole_splits j.rendering j.engine.graph ready.input.found.0 head_good all_there k within in
+      told_part (subst (λ bytes. IsPart j.rendering.to.name.now bytes (Some files) (Some held)) (sym w.1)
+      (part_of_more j.rendering.to.name.now (part_of j.rendering j.engine.graph ready.input.found.0 k) w.0 (Some files) (Some held) part))
+  told_broken k within (inr (all, part)) = told_part part
+
+  -- and what stands there
+  abbrev Broken : Graph → ℕ → Type 0
+  Broken g k =
+      (held q.output ≡ files q.output)
+      ⊎ (((n : ℕ) × (held q.output ≡ Some (take n (output_after q g ready.head (recorded ready.head ready.input.found.0) k))))
+      ⊎ ((k ≡ ready.head.frames + silent_frames q g) × ((n : ℕ) × (held q.output ≡ Some (take n (output_of q g ready.head (recorded ready.head ready.input.found.0)))))))
+
+  all_frames_so : all_frames j.rendering.from ≡ ready.head.frames + silent_frames q ready.g
+  all_frames_so = ap (λ n. j.rendering.from.head.frames + n) ready.job.rendering.silent ∙ ap (λ (h : Head). h.frames + silent_frames q ready.g) ready.job.rendering.head_is
+
+  broken_so : (k : ℕ) → k ≤ all_frames j.rendering.from → IsBroken j.rendering j.engine.graph ready.input.found.0 k (Some files) (Some held) → Broken ready.g k
+  broken_so k within (inl (inl same)) = inl (ap held (sym ready.job.rendering.output) ∙ same ∙ ap files ready.job.rendering.output)
+  broken_so k within (inl (inr (n, is))) =
+      inr (inl (n, holds_so (take n (part_of j.rendering j.engine.graph ready.input.found.0 k)) is ∙ ap (λ bytes. Some (take n bytes)) (part_so k within)))
+  broken_so k within (inr (all, inl same)) = inl (ap held (sym ready.job.rendering.output) ∙ same ∙ ap files ready.job.rendering.output)
+  broken_so k within (inr (all, inr (n, is))) =
+      inr (inr (all ∙ all_frames_so, (n, holds_so (take n (whole_of j.rendering j.engine.graph ready.input.found.0)) is ∙ ap (λ bytes. Some (take n bytes)) whole_so)))
+
   -- ---- the engine
   module _ (e : Parts) (same : IsSame j.engine e) where
     graph_so : ready.g ≡ e.graph
@@ -163,13 +189,15 @@ module _ (q : RenderRequest) (j : Job) (files held : Holding) (ready : IsReadyJo
         subst (λ (g : Graph). (head : Head) × (samples : List ℤ) × IsJob q g head samples files × Stands e (all_input q g samples)) graph_so
         (ready.head, recorded ready.head ready.input.found.0, job_is q j files ready, subst (Stands e) history_all_so stands)
 
+    count_so : (k : ℕ) → k ≤ all_frames j.rendering.from → Stands e (first_frames j.rendering.from ready.input.found.0 k) → k ≡ e.frames
+    count_so k within stands =
+        sym (stands.frames ∙ first_long j.rendering ready.g ready.input.found.0 head_good all_there q ready.head ready.job.rendering ready.input.channels k within)
+
     pub told_halted : (k : ℕ) → k ≤ all_frames j.rendering.from → Stands e (first_frames j.rendering.from ready.input.found.0 k)
         → held j.rendering.to.name.now ≡ Some (part_of j.rendering j.engine.graph ready.input.found.0 k) → HasHalted q (Some files) (Some held) e
     told_halted k within stands holds =
-        let count : k ≡ e.frames =
-        sym (stands.frames ∙ first_long j.rendering ready.g ready.input.found.0 head_good all_there q ready.head ready.job.rendering ready.input.channels k within) in
         subst (λ (n : ℕ). (head : Head) × (samples : List ℤ) × IsJob q e.graph head samples files × Stands e (first_of n (all_input q e.graph samples))
-        × (held q.output ≡ Some (output_after q e.graph head samples n))) count
+        × (held q.output ≡ Some (output_after q e.graph head samples n))) (count_so k within stands)
         (subst (λ (g : Graph). (head : Head) × (samples : List ℤ) × IsJob q g head samples files × Stands e (first_of k (all_input q g samples))
         × (held q.output ≡ Some (output_after q g head samples k))) graph_so (
           ready.head,
@@ -178,6 +206,18 @@ module _ (q : RenderRequest) (j : Job) (files held : Holding) (ready : IsReadyJo
           subst (Stands e) (history_first_so k within) stands,
           holds_so (part_of j.rendering j.engine.graph ready.input.found.0 k) holds ∙ ap Some (part_so k within),
         ))
+
+    abbrev HasSo : Graph → ℕ → Type 0
+    HasSo g k =
+        IsJob q g ready.head (recorded ready.head ready.input.found.0) files × Stands e (first_of k (all_input q g (recorded ready.head ready.input.found.0))) × Broken g k
+
+    pub told_stands : (k : ℕ) → k ≤ all_frames j.rendering.from → Stands e (first_frames j.rendering.from ready.input.found.0 k)
+        → IsBroken j.rendering j.engine.graph ready.input.found.0 k (Some files) (Some held) → HasBroken q (Some files) (Some held) e
+    told_stands k within stands is =
+        let so : HasSo e.graph e.frames =
+        subst (λ (n : ℕ). HasSo e.graph n) (count_so k within stands)
+        (subst (λ (g : Graph). HasSo g k) graph_so (job_is q j files ready, subst (Stands e) (history_first_so k within) stands, broken_so k within is)) in
+        (ready.head, recorded ready.head ready.input.found.0, so.0, so.1, so.2)
 
 -- ---- where it is told or not
 module _ (q : RenderRequest) (j : Job) (e : Parts) (same : IsSame j.engine e) where
@@ -202,13 +242,15 @@ module _ (q : RenderRequest) (j : Job) (e : Parts) (same : IsSame j.engine e) wh
       (λ file. Stands e (first_frames j.rendering.from file k) × Holds j.rendering.to.name.now (part_of j.rendering j.engine.graph file k) (Some held)) is in
       (told_first q j files held ready k within w.1, told_halted q j files held ready e same k within w.0 w.1)
 
-pub broken : (q : RenderRequest) (j : Job) (files held : Option Holding) → IsReadyJob q files j
-    → HeldBytes j.rendering.from.name.now files (λ file. IsPart j.rendering.to.name.now (whole_of j.rendering j.engine.graph file) files held) → IsBegun q files held
-broken q j None held ready is = tt
-broken q j (Some files) None ready is = tt
-broken q j (Some files) (Some held) ready is =
-    told_part q j files held ready
-    (of_file q j files held ready (λ file. IsPart j.rendering.to.name.now (whole_of j.rendering j.engine.graph file) (Some files) (Some held)) is)
+  pub broken : (files held : Option Holding) → IsReadyJob q files j → (k : ℕ) → k ≤ all_frames j.rendering.from
+      → HeldBytes j.rendering.from.name.now files (λ file. Stands e (first_frames j.rendering.from file k) × IsBroken j.rendering j.engine.graph file k files held)
+      → IsBegun q files held × HasBroken q files held e
+  broken None held ready k within is = (tt, tt)
+  broken (Some files) None ready k within is = (tt, tt)
+  broken (Some files) (Some held) ready k within is =
+      let w = of_file q j files held ready
+      (λ file. Stands e (first_frames j.rendering.from file k) × IsBroken j.rendering j.engine.graph file k (Some files) (Some held)) is in
+      (told_broken q j files held ready k within w.1, told_stands q j files held ready e same k within w.0 w.1)
 
 -- ---- the run
 module _ (q : RenderRequest) (j : Job) (files held : Option Holding) (reads later writes since : ℕ) (old new : Option (List ℕ)) (before after : ℕ) (e : Parts)
@@ -261,23 +303,26 @@ module _ (q : RenderRequest) (j : Job) (files held : Option Holding) (reads late
         unreported = inl (λ e. absurd (cc));
       }
 
-  pub run_broken : Rose writes since → HeldBytes j.rendering.from.name.now files (λ file. IsPart j.rendering.to.name.now (whole_of j.rendering j.engine.graph file) files held)
+  pub run_broken : Rose writes since → (k : ℕ) → k ≤ all_frames j.rendering.from
+      → HeldBytes j.rendering.from.name.now files (λ file. Stands e (first_frames j.rendering.from file k) × IsBroken j.rendering j.engine.graph file k files held)
       → IsRun (Ok (render q)) (outside files reads writes old before) (outside held later since new after) WriteFault (Some j.plan) (Some e)
-  run_broken rose is = record {
-    by_words = render_words q WriteFault (λ e. absurd (cc)) (λ e. absurd (cc)) (λ e. absurd (cc)) differs;
-    done = λ is. absurd (cc);
-    begun = broken q j files held ready is;
-    others = keeps;
-    untouched = inl tt;
-    answered = (j.plan, j.text.items, refl, ready_work q j files differs ready, gains);
-    played = engine_so (λ e. ⊤) tt;
-    cause = inr (inl (refl, rose, (differs, may_be_ready q j files ready)));
-    reads = more_reads;
-    writes = more_writes;
-    unwritten = inl tt;
-    reports = counted;
-    unreported = inl (λ e. absurd (cc));
-  }
+  run_broken rose k within is =
+      let all = broken q j e same files held ready k within is in
+      record {
+        by_words = render_words q WriteFault (λ e. absurd (cc)) (λ e. absurd (cc)) (λ e. absurd (cc)) differs;
+        done = λ is. absurd (cc);
+        begun = all.0;
+        others = keeps;
+        untouched = inl tt;
+        answered = (j.plan, j.text.items, refl, ready_work q j files differs ready, gains);
+        played = engine_so (HasBroken q files held) all.1;
+        cause = inr (inl (refl, rose, (differs, may_be_ready q j files ready)));
+        reads = more_reads;
+        writes = more_writes;
+        unwritten = inl tt;
+        reports = counted;
+        unreported = inl (λ e. absurd (cc));
+      }
 
   -- by how the output was written
   pub run_by : (result : Result ⊤ StreamFault)
@@ -285,10 +330,11 @@ module _ (q : RenderRequest) (j : Job) (files held : Option Holding) (reads late
       → (result ≡ Err Read → (k : ℕ) × (k < all_frames j.rendering.from)
       × HeldBytes j.rendering.from.name.now files (λ file. Stands e (first_frames j.rendering.from file k) × Holds j.rendering.to.name.now (part_of j.rendering j.engine.graph file k) held))
       → (result ≡ Err Read → Rose reads later)
-      → (result ≡ Err Write → HeldBytes j.rendering.from.name.now files (λ file. IsPart j.rendering.to.name.now (whole_of j.rendering j.engine.graph file) files held))
+      → (result ≡ Err Write → (k : ℕ) × (k ≤ all_frames j.rendering.from)
+      × HeldBytes j.rendering.from.name.now files (λ file. Stands e (first_frames j.rendering.from file k) × IsBroken j.rendering j.engine.graph file k files held))
       → (result ≡ Err Write → Rose writes since)
       → IsRun (Ok (render q)) (outside files reads writes old before) (outside held later since new after) (end_by result) (Some j.plan) (Some e)
   run_by (Ok u) done unread read_failed broke write_failed = run_written done
   run_by (Err Read) done unread read_failed broke write_failed =
       let w = unread refl in let less = w.1 in run_halted (read_failed refl) w.0 (omega arith) w.2
-  run_by (Err Write) done unread read_failed broke write_failed = run_broken (write_failed refl) (broke refl)
+  run_by (Err Write) done unread read_failed broke write_failed = let w = broke refl in run_broken (write_failed refl) w.0 w.1 w.2

@@ -1,20 +1,22 @@
 -- The steps of writing a file: its head, its frames, its pad.
-use Rattle.std.proofs.Common.{◌≡◌, ◌≢◌, ℕ, ◌+◌, ◌%◌, ◌≤◌, List, [], ◌++◌, length, replicate, Option, Some, None, refl, sym, ◌∙◌, ap, subst, inl, inr}
-use Rattle.std.proofs.lemmas.List.{append_assoc, append-nil}
+use Rattle.std.proofs.Common.{◌≡◌, ◌≢◌, ℕ, ◌+◌, ◌*◌, ◌%◌, ◌≤◌, List, [], ◌++◌, replicate, take, Option, Some, None, refl, sym, ◌∙◌, ap, subst, arith, inl, inr}
+use Rattle.std.proofs.lemmas.List.{append-nil}
+use Rattle.std.proofs.Math.Nat.{zero-div}
 use Rattle.std.specs.Prelude.{◌⊎◌}
 use Rattle.gh_outside.specs.Causes.{Rose}
 use Rattle.gh_outside.specs.Holdings.{Holding, HeldBytes, Holds, IsMissing, IsPast, KeepsOthers}
-use Rattle.graph_model.specs.declared.graph.Graph.{Graph}
+use Rattle.graph_model.specs.Histories.{before, frame_in, frames_of}
 use Rattle.wav_pcm.specs.Files.{data_size}
-use Rattle.wav_pcm.proofs.Told.{told_always, told_both, told_more}
+use Rattle.wav_pcm.proofs.Told.{told_always, told_more}
 use Rattle.engine_model.specs.Engines.{Parts, Stands}
 use Rattle.streaming.specs.Appends.{IsAppended, IsPart, IsPartAppended}
-use Rattle.streaming.specs.Blocks.{all_frames, answer_put, first_frames, HasPut, HasPutPart, MayStream}
+use Rattle.streaming.specs.Blocks.{all_frames, all_samples, answer_put, first_frames, HasPut, HasPutPart, MayStream}
+use Rattle.streaming.specs.declared.ends.Incoming.{Incoming}
 use Rattle.streaming.proofs.LoopFacts.{not_past}
 use Rattle.streaming.proofs.PartLaws.{keeps, not_missing, part-of, rose_since}
-use Rattle.host_modes.specs.Files.{part_of, whole_of}
+use Rattle.host_modes.specs.Files.{part_of, whole_of, IsBroken}
 use Rattle.host_modes.specs.declared.output.files.Rendering.{Rendering}
-use Rattle.host_modes.proofs.FileLaws.{all_there, part_of_more, whole_splits}
+use Rattle.host_modes.proofs.FileLaws.{part_of_more}
 
 -- a name that stays is told the same
 told_before : (name other : List ℕ) (P : List ℕ → Type 0) (a b : Option Holding) → name ≢ other → KeepsOthers other a b → HeldBytes name b P → HeldBytes name a P
@@ -34,12 +36,25 @@ some_told name end (Some files) Q P there told f none = of (files name) refl tol
     of None at told = absurd (there (λ bytes held. absurd (none_some (sym at ∙ held))))
     of (Some file) at told = f file told
 
-module _ (r : Rendering) (g : Graph) (old : Option Holding) where
+-- no frames make no history
+no_frames : (m : ℕ) → [] ≡ frames_of m []
+no_frames m = ap (λ n. before (frame_in m []) n) (sym (zero-div m))
+
+none_first : (i : Incoming) (file : List ℕ) → [] ≡ first_frames i file 0
+none_first i file =
+    let none : 0 ≡ 0 * i.head.channels = omega arith in
+    no_frames i.head.channels ∙ ap (λ n. frames_of i.head.channels (take n (all_samples i file))) none
+
+module _ (r : Rendering) (e : Parts) (old : Option Holding) where
   -- the head, or the first of it
-  pub begun_part : (new : Option Holding) → IsPart r.to.name.now r.head old new → HeldBytes r.from.name.now old (λ file. IsPart r.to.name.now (whole_of r g file) old new)
-  begun_part new part = told_always r.from.name.now old (λ file. IsPart r.to.name.now (whole_of r g file) old new)
-      (λ file. subst (λ bytes. IsPart r.to.name.now bytes old new) (sym (append_assoc r.head (answer_put r.from r.to g file (all_frames r.from)) (replicate (r.data_bytes % 2) 0)))
-      (part_of_more r.to.name.now r.head (answer_put r.from r.to g file (all_frames r.from) ++ replicate (r.data_bytes % 2) 0) old new part))
+  pub begun_part : (new : Option Holding) → Stands e [] → IsPart r.to.name.now r.head old new
+      → (k : ℕ) × (k ≤ all_frames r.from) × HeldBytes r.from.name.now old (λ file. Stands e (first_frames r.from file k) × IsBroken r e.graph file k old new)
+  begun_part new none part = (
+    0,
+    omega arith,
+    told_always r.from.name.now old (λ file. Stands e (first_frames r.from file 0) × IsBroken r e.graph file 0 old new)
+        (λ file. (subst (Stands e) (none_first r.from file) none, inl (part_of_more r.to.name.now r.head (answer_put r.from r.to e.graph file 0) old new part))),
+  )
 
 module _ (r : Rendering) (e : Parts) (old held : Option Holding) (may : MayStream r.from r.to e old) (begun : KeepsOthers r.to.name.now old held) (head : Holds r.to.name.now r.head held) where
   -- the stream begins there
@@ -62,20 +77,17 @@ module _ (r : Rendering) (e : Parts) (old held : Option Holding) (may : MayStrea
 
   module _ (new : Option Holding) (others : KeepsOthers r.to.name.now held new) where
     -- a block was not appended whole
-    pub broken_file : (k : ℕ) → k ≤ all_frames r.from → HasPutPart r.from r.to k held e new → HeldBytes r.from.name.now old (λ file. IsPart r.to.name.now (whole_of r e.graph file) old new)
-    broken_file k within put =
-        told_more r.from.name.now old _ (λ file. IsPart r.to.name.now (whole_of r e.graph file) old new)
-        (λ file told. part_so file told.0 told.1)
-        (told_both r.from.name.now old _ _
-        (told_before r.from.name.now r.to.name.now (λ file. IsPartAppended r.to.name.now (answer_put r.from r.to e.graph file k) held new) old held may.differs begun put)
-        (all_there r.from.name.now (r.from.head.from + data_size r.from.head) old may.there))
+    pub broken_file : (k : ℕ) (e' : Parts) → HasPutPart r.from r.to k held e new e'
+        → HeldBytes r.from.name.now old (λ file. Stands e' (first_frames r.from file k) × IsBroken r e.graph file k old new)
+    broken_file k e' put =
+        told_before r.from.name.now r.to.name.now (λ file. Stands e' (first_frames r.from file k) × IsBroken r e.graph file k old new) old held may.differs begun
+        (told_more r.from.name.now held (λ file. Stands e' (first_frames r.from file k) × IsPartAppended r.to.name.now (answer_put r.from r.to e.graph file k) held new)
+        (λ file. Stands e' (first_frames r.from file k) × IsBroken r e.graph file k old new) (λ file told. (told.0, inl (part_so file told.1))) put)
       where
-        part_so : (file : List ℕ) → IsPartAppended r.to.name.now (answer_put r.from r.to e.graph file k) held new → r.from.head.from + data_size r.from.head ≤ length file
-            → IsPart r.to.name.now (whole_of r e.graph file) old new
-        part_so file put there =
-            let w = whole_splits r e.graph file may.head there k within in
-            subst (λ bytes. IsPart r.to.name.now bytes old new) (sym (append_assoc r.head (answer_put r.from r.to e.graph file k) w.0) ∙ sym w.1)
-            (part-of r.to.name.now r.head (answer_put r.from r.to e.graph file k) w.0 old held new begun others head put)
+        part_so : (file : List ℕ) → IsPartAppended r.to.name.now (answer_put r.from r.to e.graph file k) held new → IsPart r.to.name.now (part_of r e.graph file k) old new
+        part_so file put =
+            subst (λ bytes. IsPart r.to.name.now bytes old new) (ap (λ l. r.head ++ l) (append-nil (answer_put r.from r.to e.graph file k)))
+            (part-of r.to.name.now r.head (answer_put r.from r.to e.graph file k) [] old held new begun others head put)
 
     -- a block could not be read
     pub halted_file : (k : ℕ) (e' : Parts) → HasPut r.from r.to k held e new e'
@@ -96,12 +108,19 @@ module _ (r : Rendering) (e : Parts) (old held : Option Holding) (may : MayStrea
           told_more r.from.name.now old _ (λ file. Stands e' (first_frames r.from file (all_frames r.from)) × Holds r.to.name.now (whole_of r e.graph file) last)
           (λ file told. (told.0, padded (part_of r e.graph file (all_frames r.from)) told.1)) all_so
 
-      pub padless_file : IsPartAppended r.to.name.now (replicate (r.data_bytes % 2) 0) new last → HeldBytes r.from.name.now old (λ file. IsPart r.to.name.now (whole_of r e.graph file) old last)
-      padless_file padded =
-          told_more r.from.name.now old _ (λ file. IsPart r.to.name.now (whole_of r e.graph file) old last)
-          (λ file told. subst (λ bytes. IsPart r.to.name.now bytes old last) (ap (λ pad. part_of r e.graph file (all_frames r.from) ++ pad) (append-nil (replicate (r.data_bytes % 2) 0)))
-          (part-of r.to.name.now (part_of r e.graph file (all_frames r.from)) (replicate (r.data_bytes % 2) 0) [] old new last (keeps r.to.name.now old held new begun others) pads told.1 padded))
-          all_so
+      pub padless_file : IsPartAppended r.to.name.now (replicate (r.data_bytes % 2) 0) new last
+          → (k : ℕ) × (k ≤ all_frames r.from) × HeldBytes r.from.name.now old (λ file. Stands e' (first_frames r.from file k) × IsBroken r e.graph file k old last)
+      padless_file padded = (
+        all_frames r.from,
+        omega arith,
+        told_more r.from.name.now old _ (λ file. Stands e' (first_frames r.from file (all_frames r.from)) × IsBroken r e.graph file (all_frames r.from) old last)
+            (λ file told. (told.0, inr (refl, part_so file told.1))) all_so,
+      )
+        where
+          part_so : (file : List ℕ) → Holds r.to.name.now (part_of r e.graph file (all_frames r.from)) new → IsPart r.to.name.now (whole_of r e.graph file) old last
+          part_so file there =
+              subst (λ bytes. IsPart r.to.name.now bytes old last) (ap (λ pad. part_of r e.graph file (all_frames r.from) ++ pad) (append-nil (replicate (r.data_bytes % 2) 0)))
+              (part-of r.to.name.now (part_of r e.graph file (all_frames r.from)) (replicate (r.data_bytes % 2) 0) [] old new last (keeps r.to.name.now old held new begun others) pads there padded)
 
       pub pad_missed : (before now later : ℕ) → before ≤ now → Rose now later ⊎ IsMissing r.to.name.now new → Rose before later
       pad_missed before now later more (inl rose) = rose_since before now later more rose

@@ -19,7 +19,8 @@ demo_graph q = generated q.seed q.nodes
 unfoldable pub demo_frames : ℕ
 demo_frames = 4800
 
--- the graph's answer to so many frames of two channels, and then to silence as long as its latency, in samples of 16 bits
+-- the graph's answer to so many frames of two channels, and then to silence as long as its latency, in samples of 16
+-- bits
 unfoldable pub demo_bytes : DemoRequest → List ℕ
 demo_bytes q = let g = demo_graph q in bytes_of 16 (answered g (latency_of_graph g) (samples_drawn q.seed (demo_frames * 2)))
 

@@ -1,5 +1,5 @@
 -- The engine that a run hands back.
-use Rattle.std.specs.Prelude.{◌≡◌, ℤ, List, [], Option, Some, None, Ok, ◌⊎◌, ⊤}
+use Rattle.std.specs.Prelude.{◌≡◌, ℕ, ◌+◌, ℤ, List, [], take, Option, Some, None, Ok, ◌⊎◌, ⊤}
 use Rattle.graph_model.specs.Sound.{IsSound}
 use Rattle.gh_outside.specs.Holdings.{Holding}
 use Rattle.plan_model.specs.declared.plan.Plan.{Plan}
@@ -11,7 +11,7 @@ use Rattle.command_words.specs.Rendering.{RenderRequest}
 use Rattle.command_words.specs.Requests.{render, demo}
 use Rattle.host_modes.specs.Asked.{mode_of, Asked}
 use Rattle.host_modes.specs.Demos.{demo_graph, demo_input}
-use Rattle.host_modes.specs.Outputs.{all_input, first_of, output_after}
+use Rattle.host_modes.specs.Outputs.{all_input, first_of, output_after, output_of, silent_frames}
 use Rattle.host_modes.specs.Plans.{IsBestPlan}
 use Rattle.host_modes.specs.Readings.{FindsGraph, IsJob}
 use Rattle.host_modes.specs.declared.ends.End.{End}
@@ -36,6 +36,16 @@ HasHalted q (Some old) (Some new) e =
     × Stands e (first_of e.frames (all_input q e.graph samples)) × (new q.output ≡ Some (output_after q e.graph head samples e.frames))
 HasHalted q old new e = ⊤
 
+-- it stands for the first of them, and the output holds what it held, a first part of what they make, or, where they
+-- are all, of the whole file
+abbrev pub HasBroken : RenderRequest → Option Holding → Option Holding → Parts → Type 0
+HasBroken q (Some old) (Some new) e =
+    (head : Head) × (samples : List ℤ) × IsJob q e.graph head samples old × Stands e (first_of e.frames (all_input q e.graph samples))
+    × ((new q.output ≡ old q.output)
+    ⊎ (((n : ℕ) × (new q.output ≡ Some (take n (output_after q e.graph head samples e.frames))))
+    ⊎ ((e.frames ≡ head.frames + silent_frames q e.graph) × ((n : ℕ) × (new q.output ≡ Some (take n (output_of q e.graph head samples)))))))
+HasBroken q old new e = ⊤
+
 -- such an engine is there
 abbrev pub HasEngine : RenderRequest → Option Holding → Option Plan → (Parts → Type 0) → Option Parts → Type 0
 HasEngine q held kept P engine = (e : Parts) × (engine ≡ Some e) × IsEngineOf q held kept e × P e
@@ -43,7 +53,7 @@ HasEngine q held kept P engine = (e : Parts) × (engine ≡ Some e) × IsEngineO
 -- the engine of a request to render, by its end
 abbrev pub IsRenderedBy : RenderRequest → Option Holding → Option Holding → End → Option Plan → Option Parts → Type 0
 IsRenderedBy q old new Done kept engine = HasEngine q old kept (HasPlayed q old) engine
-IsRenderedBy q old new WriteFault kept engine = HasEngine q old kept (λ e. ⊤) engine
+IsRenderedBy q old new WriteFault kept engine = HasEngine q old kept (HasBroken q old new) engine
 IsRenderedBy q old new ReportFault kept engine = HasEngine q old kept (λ e. Stands e []) engine
 IsRenderedBy q old new ReadFault kept engine = ((kept ≡ None) × (engine ≡ None)) ⊎ HasEngine q old kept (HasHalted q old new) engine
 IsRenderedBy q old new end kept engine = engine ≡ None

@@ -1,5 +1,5 @@
 -- The output file, as it is written.
-use Rattle.std.specs.Prelude.{◌≡◌, ℕ, ◌+◌, ◌%◌, ◌^◌, ◌≤◌, List, [], ◌++◌, Option, replicate}
+use Rattle.std.specs.Prelude.{◌≡◌, ℕ, ◌+◌, ◌%◌, ◌^◌, ◌≤◌, List, [], ◌++◌, ◌⊎◌, Option, replicate}
 use Rattle.graph_model.specs.Graphs.{in_channels, out_channels}
 use Rattle.graph_model.specs.Sound.{IsSound}
 use Rattle.graph_model.specs.declared.graph.Graph.{Graph}
@@ -10,6 +10,7 @@ use Rattle.wav_pcm.specs.Heads.{head_of, most_data}
 use Rattle.wav_pcm.specs.Samples.{IsSize}
 use Rattle.wav_pcm.specs.declared.head.Head.{Head}
 use Rattle.engine_model.specs.Engines.{Stands}
+use Rattle.streaming.specs.Appends.{IsPart}
 use Rattle.streaming.specs.Blocks.{all_frames, answer_put, AreLengths, HasRoom}
 use Rattle.command_words.specs.Rendering.{RenderRequest}
 use Rattle.host_modes.specs.Asked.{mode_of}
@@ -27,6 +28,12 @@ part_of r g file k = r.head ++ answer_put r.from r.to g file k
 -- the whole file: all frames, and a byte 0 where their bytes are odd in number
 abbrev pub whole_of : Rendering → Graph → List ℕ → List ℕ
 whole_of r g file = part_of r g file (all_frames r.from) ++ replicate (r.data_bytes % 2) 0
+
+-- what may stand there where a write failed once the first k frames were rendered: what the name held, a first part of
+-- what these make, or, where they are all frames, of the whole file
+abbrev pub IsBroken : Rendering → Graph → List ℕ → ℕ → Option Holding → Option Holding → Type 0
+IsBroken r g file k old new =
+    IsPart r.to.name.now (part_of r g file k) old new ⊎ ((k ≡ all_frames r.from) × IsPart r.to.name.now (whole_of r g file) old new)
 
 -- it is that of a request, for a graph and the head of its input
 pub record IsRenderingOf (q : RenderRequest) (g : Graph) (head : Head) (r : Rendering) : Type 0 where

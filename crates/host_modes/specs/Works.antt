@@ -59,8 +59,8 @@ abbrev pub IsReported : Asked → Option Holding → End → Option Plan → Opt
 IsReported asked held end kept old new = (plan : Plan) × (text : List ℕ) × (kept ≡ Some plan) × IsWork asked held plan text end × GainsAll text old new
 
 -- What a run hands back and has reported, by its end. With a work that is done, or whose output could not be written,
--- the whole text has been reported, and so it has where a block could not be read; where the report failed, the first of
--- it; and at any other end nothing, and no plan is there.
+-- the whole text has been reported, and so it has where a block could not be read; where the report failed, the first
+-- of it; and at any other end nothing, and no plan is there.
 abbrev pub IsAnswered : Asked → Option Holding → End → Option Plan → Option (List ℕ) → Option (List ℕ) → Type 0
 IsAnswered asked held Done kept old new = IsReported asked held Done kept old new
 IsAnswered asked held (No rule place) kept old new = IsReported asked held (No rule place) kept old new

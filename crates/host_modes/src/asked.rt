@@ -57,8 +57,8 @@ fn answered<T: Threads + Sync, F: Folder, R: Sink>(
 
 /// Does what the words ask for, in one of the four modes.
 ///
-/// What it leaves of the files and of the report, what it hands back, why it ended and how the counts stand is one record,
-/// `IsRun`, over what the words ask for.
+/// What it leaves of the files and of the report, what it hands back, why it ended and how the counts stand is one
+/// record, `IsRun`, over what the words ask for.
 pub fn perform<T: Threads + Sync, F: Folder, R: Sink>(
     rt: &T,
     alloc: Global,

@@ -36,12 +36,13 @@ pub enum End {
     /// The input is no WAV file for the graph, or its output would be too long. Nothing was reported or written.
     #[error("wav: {0}")]
     Wav(WavFault),
-    /// A read failed, or a file that the request reads is not there. Nothing was reported or written; or, in `render`, the
-    /// plan was reported, and the output holds its head and just those of the frames that the engine has rendered which
-    /// are kept.
+    /// A read failed, or a file that the request reads is not there. Nothing was reported or written; or, in
+    /// `render`, the plan was reported, and the output holds its head and just those of the frames that the engine
+    /// has rendered which are kept.
     #[error("a read failed")]
     ReadFault,
-    /// A write failed. The output is as it was, or holds a first part of the file.
+    /// A write failed. The output is as it was, or holds a first part of the file, of no more frames than the engine
+    /// has rendered.
     #[error("a write failed")]
     WriteFault,
     /// The report failed. It has gained a first part of its text, and nothing was written.

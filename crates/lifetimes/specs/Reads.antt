@@ -27,8 +27,8 @@ ReadBefore r q = ComesBefore (r.uid.0, r.channel) (q.uid.0, q.channel)
 abbrev pub IsOf : Read → Life → Type 0
 IsOf r x = (r.uid.0 ≡ x.uid.0) × (r.channel ≡ x.channel)
 
--- the life of a value, by the reads: it is born as one of them says, dies in the last wave that reads it, and has a sole
--- reader where only one node reads it there
+-- the life of a value, by the reads: it is born as one of them says, dies in the last wave that reads it, and has a
+-- sole reader where only one node reads it there
 pub record IsLifeBy (reads : List Read) (x : Life) : Type 0 where
   pub born : (r : Read) × Contains reads r × IsOf r x × (r.born ≡ x.born)
   pub last : (r : Read) × Contains reads r × IsOf r x × (r.wave ≡ x.dies)

@@ -15,8 +15,8 @@ use Rattle.shortest_paths.specs.declared.edges.Edge.{Edge}
 use Rattle.shortest_paths.specs.Walks.{ClimbsIn}
 use Rattle.shortest_paths.proofs.WalkLemmas.{some_same}
 
--- what holds on the way from `to` back to `from`: it has come to `at` in i steps, and these carry so many units; some, if
--- the walks were searched in this very flow
+-- what holds on the way from `to` back to `from`: it has come to `at` in i steps, and these carry so many units;
+-- some, if the walks were searched in this very flow
 pub record IsCarrying (net : Network) (flow : List ℕ) (r : Residual) (d : Searcher) (from to most units at i : ℕ) : Type 0 where
   pub left : (n : ℕ) × (n + i < length d.last.items) × ClimbsIn r.edges.items d.last.items from n at
   pub path : ClimbsIn r.edges.items d.last.items at i to

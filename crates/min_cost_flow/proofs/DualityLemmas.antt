@@ -83,7 +83,8 @@ sum-at (suc n) h units p l =
     elsewhere : (v : ℕ) → v < h → cond (h == v) units 0 ≡ 0
     elsewhere v m = grind (arith, nat_tests)
 
--- ---- what the potentials rise along the units is the sum over the points of units in minus units out, times the potential
+-- ---- what the potentials rise along the units is the sum over the points of units in minus units out, times the
+-- potential
 net-rises : (n : ℕ) (p : ℕ → ℤ) (arcs : List Arc) (flow : List ℕ) → AllByRecursion (λ (a : Arc). (a.tail < n) × (a.head < n)) arcs →
     (sum_over n (λ v. net_of arcs flow v *ℤ p v) +ℤ weighted (λ a. p a.tail) arcs flow) ≡ weighted (λ a. p a.head) arcs flow
 net-rises n p [] flow h = let none = sum-none n (λ v. net_of [] flow v *ℤ p v) (λ v l. zero-*ℤ (p v)) in omega (arith, ints)

@@ -4,6 +4,7 @@ pub mod CarryLemmas
 pub mod ResidualLemmas
 pub mod TightLemmas
 pub mod SolveLemmas
+pub mod AdmissibleLemmas
 pub mod NetworkLemmas
 pub mod DualityLemmas
 pub mod Examples

@@ -81,7 +81,7 @@ IsSending-first arcs old edges last from to units n l c = record {
 }
 
 -- the units on an arc after a write
-index-set : (flow : List ℕ) (k j g : ℕ) → k < length flow → (slice_index (set flow k g) j ≡ g) × (j ≡ k) ⊎ (slice_index (set flow k g) j ≡ slice_index flow j) × (j ≢ k)
+pub index-set : (flow : List ℕ) (k j g : ℕ) → k < length flow → (slice_index (set flow k g) j ≡ g) × (j ≡ k) ⊎ (slice_index (set flow k g) j ≡ slice_index flow j) × (j ≢ k)
 index-set flow k j g l =
     elim (cases_eq j k) [
       | inl same ↦ inl (subst (λ x. slice_index (set flow k g) x ≡ g) (sym same) (get_or-set_same flow k g 0 l), same)

@@ -275,7 +275,7 @@ module _ (net : Network) (flow : List ℕ) (unmet : List ℤ) (from to n : ℕ) 
 
   pub IsMeeting-next : (new : List ℕ) → length new ≡ length flow →
       ((v : ℕ) → net_of net.arcs new v +ℤ pos (units_at n from v) ≡ net_of net.arcs flow v +ℤ pos (units_at n to v)) →
-      ((k : ℕ) → slice_index new k ≤ slice_index flow k + n) →
+      ((k : ℕ) → slice_index new k ≤ slice_index flow k + 2 ^ 17 * n) →
       IsMeeting net new (set (set unmet from (number_of unmet from +ℤ pos n)) to (number_of unmet to -ℤ pos n))
   IsMeeting-next new len sent bound = record {
     units_each = len ∙ m.units_each;

@@ -1,4 +1,5 @@
--- The residual network of a flow that has potentials: it meets what a search asks for, and the search gives potentials again.
+-- The residual network of a flow that has potentials: it meets what a search asks for, and the search gives
+-- potentials again.
 use Rattle.std.proofs.Common.{◌≡◌, ◌≢◌, ℕ, zero, suc, ◌+◌, ◌<◌, ◌≤◌, ◌^◌, ℤ, pos, ◌+ℤ◌, ◌≤ℤ◌, List, [], ◌∷◌, length, map, Option, Some, None, inl, inr, refl, sym, ap, subst, ◌∙◌, arith, slice_get}
 use Rattle.std.specs.List.{Contains, All}
 use Rattle.std.proofs.lemmas.Int.{ints}

@@ -1,8 +1,8 @@
 -- Flows in a network whose arcs have no capacity, and the potentials that certify them.
 --
--- The words are those of Ahuja, Magnanti and Orlin, Network Flows, chapter 9. A point is a node of theirs. A need is minus
--- their supply, a least difference minus their cost, and a potential is theirs, so that the reduced cost of an arc is the
--- difference of the potentials along it less its least difference.
+-- The words are those of Ahuja, Magnanti and Orlin, Network Flows, chapter 9. A point is a node of theirs. A need is
+-- minus their supply, a least difference minus their cost, and a potential is theirs, so that the reduced cost of an
+-- arc is the difference of the potentials along it less its least difference.
 use Rattle.std.specs.Prelude.{◌≡◌, ℕ, ◌+◌, ◌<◌, ◌≤◌, ◌^◌, ◌==◌, ℤ, pos, ◌+ℤ◌, ◌-ℤ◌, ◌≤ℤ◌, List, [], ◌∷◌, length, map, Bool, if◌then◌else◌, slice_get, slice_index, Some}
 use Rattle.shortest_paths.specs.declared.edges.Edge.{Edge}
 use Rattle.shortest_paths.specs.Walks.{IsWalk, cost_of, number_of, IsWithin, Reaches}
@@ -28,8 +28,8 @@ units_out arcs flow v = units_where (λ a. a.tail == v) arcs flow
 abbrev pub MeetsNeeds : ℕ → List Arc → List ℤ → List ℕ → Type 0
 MeetsNeeds points arcs need flow = (v : ℕ) → v < points → pos (units_in arcs flow v) -ℤ pos (units_out arcs flow v) ≡ number_of need v
 
--- Complementary slackness. Along each arc the potential rises by at least the least difference, so that the reduced cost
--- is from 0 on. Where the flow has units it rises by no more, so that the reduced cost is 0.
+-- Complementary slackness. Along each arc the potential rises by at least the least difference, so that the reduced
+-- cost is from 0 on. Where the flow has units it rises by no more, so that the reduced cost is 0.
 pub record IsTight (arcs : List Arc) (flow : List ℕ) (potential : ℕ → ℤ) : Type 0 where
   pub rises : (k : ℕ) (a : Arc) → slice_get arcs k ≡ Some a → a.least ≤ℤ (potential a.head -ℤ potential a.tail)
   pub no_more : (k : ℕ) (a : Arc) → slice_get arcs k ≡ Some a → 0 < slice_index flow k → (potential a.head -ℤ potential a.tail) ≤ℤ a.least

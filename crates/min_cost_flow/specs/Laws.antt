@@ -1,7 +1,7 @@
 -- Weak duality and complementary slackness (Ahuja, Magnanti and Orlin, Network Flows, section 9.4).
 --
--- Costs and supplies have the other sign here: the weight of a flow is minus its cost, so that a flow of least cost is one of
--- greatest weight, and potentials bound the weights from above.
+-- Costs and supplies have the other sign here: the weight of a flow is minus its cost, so that a flow of least cost
+-- is one of greatest weight, and potentials bound the weights from above.
 use Rattle.std.specs.Prelude.{◌≡◌, ℕ, zero, suc, ◌<◌, ℤ, pos, ◌+ℤ◌, ◌-ℤ◌, ◌*ℤ◌, ◌≤ℤ◌, List, [], ◌∷◌, slice_get, Some}
 use Rattle.std.specs.List.{All}
 use Rattle.shortest_paths.specs.Walks.{number_of}

@@ -18,8 +18,8 @@ pub data IsMove (arcs : List Arc) (flow : List ℕ) : Edge → Step → Type 0 w
   more : (k : ℕ) (a : Arc) → slice_get arcs k ≡ Some a → IsMove arcs flow (forward a) (record { arc = k; back = false })
   fewer : (k : ℕ) (a : Arc) → slice_get arcs k ≡ Some a → 0 < slice_index flow k → IsMove arcs flow (backward a) (record { arc = k; back = true })
 
--- The edges, each with its step, are those of the residual network: a forward one for each arc, and then a reverse one for
--- each, whose limit is the units that are on the arc.
+-- The edges, each with its step, are those of the residual network: a forward one for each arc, and then a reverse
+-- one for each, whose limit is the units that are on the arc.
 pub record IsResidual (arcs : List Arc) (edges : List Edge) (steps : List Step) : Type 0 where
   pub edges_each : length edges ≡ length arcs + length arcs
   pub forwards : (k : ℕ) (a : Arc) → slice_get arcs k ≡ Some a → (slice_get edges k ≡ Some (forward a)) × (slice_get steps k ≡ Some (record { arc = k; back = false }))

@@ -25,8 +25,8 @@ pub record Ends (net : Network) (flow : List ℕ) (r : Residual) (v k : ℕ) : T
   pub step_there : slice_get r.steps.items k ≡ Some step
   pub move : IsMove net.arcs flow edge step
 
--- The search has cheapest walks from the point `from` in the residual network of the flow, to some points. Its potentials
--- satisfy complementary slackness with the flow.
+-- The search has cheapest walks from the point `from` in the residual network of the flow, to some points. Its
+-- potentials satisfy complementary slackness with the flow.
 pub record IsSearchOf (net : Network) (flow : List ℕ) (from : ℕ) (r : Residual) (d : Searcher) : Type 0 where
   pub last_each : length d.last.items ≡ net.points
   pub tight : IsTight net.arcs flow (potential_of d.numbers.items)

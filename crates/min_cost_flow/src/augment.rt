@@ -31,7 +31,7 @@ fn is_reached(last: &[Option<u32>], to: usize) -> bool
 }
 
 // The least of the unmet needs of two points, as numbers of units.
-fn unmet_at_both(unmet: &[i64], from: usize, to: usize) -> u64
+pub(crate) fn unmet_at_both(unmet: &[i64], from: usize, to: usize) -> u64
     requires from { from < length unmet.now }
     requires to { to < length unmet.now }
 
@@ -41,7 +41,7 @@ fn unmet_at_both(unmet: &[i64], from: usize, to: usize) -> u64
 }
 
 // Counts units that were sent.
-fn count_sent(unmet: &mut [i64], from: usize, to: usize, units: i64)
+pub(crate) fn count_sent(unmet: &mut [i64], from: usize, to: usize, units: i64)
     requires from { from < length unmet.old }
     requires to { to < length unmet.old }
     requires some { pos 0 ≤ℤ units }
@@ -56,8 +56,8 @@ fn count_sent(unmet: &mut [i64], from: usize, to: usize, units: i64)
     unmet[to] = deficit;
 }
 
-// Sends units along the cheapest walk to `to`, from a point of excess to a point of deficit: as many as the unmet needs of
-// both and the walk allow. Where the walks are those of this very flow, some go.
+// Sends units along the cheapest walk to `to`, from a point of excess to a point of deficit: as many as the unmet
+// needs of both and the walk allow. Where the walks are those of this very flow, some go.
 fn augment_reached(net: &Network, flow: &mut [u64], unmet: &mut [i64], walks: &Walks, to: u32)
     requires network { IsNetwork net.now }
     requires meeting { IsMeeting net.now flow.old unmet.old }
@@ -99,8 +99,8 @@ fn augment(net: &Network, flow: &mut [u64], unmet: &mut [i64], walks: &Walks, to
     }
 }
 
-// Sends units along the cheapest walks of this flow from a point of excess: to the point `first` of deficit, and then to
-// each other one, until no units or no walks are left.
+// Sends units along the cheapest walks of this flow from a point of excess: to the point `first` of deficit, and then
+// to each other one, until no units or no walks are left.
 pub(crate) fn augment_all(
     net: &Network,
     flow: &mut [u64],

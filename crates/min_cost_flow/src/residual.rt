@@ -65,8 +65,8 @@ pub(crate) fn forward_edges(alloc: Global, arcs: &[Arc]) -> Result<Vec<Edge>, Al
     Ok(edges)
 }
 
-// The residual network: an edge for one unit more on each arc, and then one for a unit fewer on each, whose limit is the
-// units that are on the arc.
+// The residual network: an edge for one unit more on each arc, and then one for a unit fewer on each, whose limit is
+// the units that are on the arc.
 pub(crate) fn residual_of(alloc: Global, arcs: &[Arc]) -> Result<Residual, AllocError>
     requires few { length arcs.now ≤ 2 ^ 16 }
     requires leasts { All (λ a. IsWithin (2 ^ 30) a.least) arcs.now }

@@ -6,6 +6,7 @@ ghost use Rattle.shortest_paths.specs.Walks.{number_of, IsWithin};
 ghost use Rattle.min_cost_flow.specs.Flow.{IsNetwork, IsTight, MeetsNeeds};
 ghost use Rattle.min_cost_flow.specs.Search.{IsReady};
 
+use crate::admissible::augment_admissible;
 use crate::augment::augment_all;
 use crate::network::{Network, Solved};
 use crate::search::{Walks, first_walks, search_from};
@@ -14,14 +15,15 @@ use std::alloc::{AllocError, Global};
 
 /// A flow that meets the needs of a network at least cost, and the least potentials that certify it.
 ///
-/// There are 1 to 2^14 points, with the root at point 0, and at most 2^16 arcs between them, each with a least difference
-/// of at most 2^30 in size. Each point has one need, of at most 2^14 units in size, and the needs sum to 0. Some walk
-/// over the arcs leads from each point to each other, and no cycle has least differences that sum to more than 0.
+/// There are 1 to 2^14 points, with the root at point 0, and at most 2^16 arcs between them, each with a least
+/// difference of at most 2^30 in size. Each point has one need, of at most 2^14 units in size, and the needs sum to
+/// 0. Some walk over the arcs leads from each point to each other, and no cycle has least differences that sum to
+/// more than 0.
 ///
-/// At each point the units in minus the units out are its need. Flow and potentials satisfy complementary slackness: along
-/// each arc the potential rises by at least the least difference, and by no more where the arc carries units. The
-/// potential of the root is 0. Any other potentials that are 0 at the root and satisfy the same with this flow are at no
-/// point below these. The call fails only for want of memory.
+/// At each point the units in minus the units out are its need. Flow and potentials satisfy complementary slackness:
+/// along each arc the potential rises by at least the least difference, and by no more where the arc carries units.
+/// The potential of the root is 0. Any other potentials that are 0 at the root and satisfy the same with this flow
+/// are at no point below these. The call fails only for want of memory.
 pub fn solve(alloc: Global, net: &Network) -> Result<Solved, AllocError>
     requires { IsNetwork net.now }
 
@@ -51,6 +53,7 @@ fn least_flow(alloc: Global, net: &Network, walks: &mut Walks) -> Result<Vec<u64
 {
     let mut flow = zeros(alloc, net.arcs.len())?;
     let mut unmet = Vec::from_slice(alloc, net.need.as_slice())?;
+    augment_admissible(alloc, net, &mut flow, &mut unmet, walks)?;
     while let (Some(from), Some(to)) = (
         excess_point(&unmet, &walks.search.numbers),
         deficit_point(&unmet),
@@ -88,8 +91,8 @@ fn zeros(alloc: Global, arcs: usize) -> Result<Vec<u64>, AllocError>
     vec![in alloc; 0; arcs]
 }
 
-// A point that has units left to send out, if there is one: of those, the one with the least number, whose units have the
-// shortest ways.
+// A point that has units left to send out, if there is one: of those, the one with the least number, whose units have
+// the shortest ways.
 fn excess_point(unmet: &[i64], numbers: &[i64]) -> Option<usize>
     requires numbers { length numbers.now ≡ length unmet.now }
 

@@ -88,8 +88,8 @@ fn first_bad_home(lives: &[Life], homes: &[Home], channels: u32) -> Option<u64>
 
 /// All buffers are below `channels`, and no two values that interfere have one buffer.
 ///
-/// Where all fit, one look at each value in the order of the buffers shows it; each is looked at beside all those before
-/// it only to find the place.
+/// Where all fit, one look at each value in the order of the buffers shows it; each is looked at beside all those
+/// before it only to find the place.
 pub(crate) fn channels(
     alloc: Global,
     lives: &[Life],

@@ -1,9 +1,8 @@
 -- How many waves a schedule has.
-use Rattle.std.proofs.Common.{◌≡◌, ℕ, suc, ◌+◌, ◌≤◌, ◌<◌, List, [], ◌∷◌, length, map, sum_by, arith, sym, ap, subst, ◌∙◌}
-use Rattle.std.specs.List.{All, flat_map, filter, Contains}
+use Rattle.std.proofs.Common.{suc, ◌≤◌, ◌<◌, List, [], ◌∷◌, length, map, arith}
+use Rattle.std.specs.List.{All, flat_map}
 use Rattle.std.proofs.lemmas.List.{length-map, length-append}
 use Rattle.std.proofs.lemmas.List.Sums.{count_by-le-length, length-filter}
-use Rattle.std.proofs.lemmas.List.Concat.{length-flat_map}
 use Rattle.std.proofs.lemmas.List.Sorted.{length_permutation, Contains-permutation}
 use Rattle.graph_model.specs.Graphs.{output_name}
 use Rattle.graph_model.specs.Paths.{is_live, live_nodes}

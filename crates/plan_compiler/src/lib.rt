@@ -1,15 +1,16 @@
 //! The plan of a graph: everything that a host decides before it renders.
 //!
 //! [`compile`] puts the live nodes where the delays sum up to the least at the least latency, orders them in waves, and
-//! gives each value a buffer, with no more buffers than the fullest wave needs. Each step is a crate of its own; here
-//! they are joined.
+//! gives each value a buffer, with no more buffers than the fullest wave needs. [`compile_shared`] does the same where
+//! each value has one delay line, which its readers share. Each step is a crate of its own; here they are joined.
 //!
 //! It promises that the plan is certified: its printed path shows the latency, its flow the total, and its peak the
 //! channels; and that each of the three is the least, and each position the least of those. All of a plan but the flow
-//! and which buffer a value has is a function of the graph and the mode (`plan_is_one` in `plan_model`).
+//! and which buffer a value has is a function of the graph and the mode (`plan_is_one` and `plan2_is_one` in
+//! `plan_model`).
 //!
-//! It stands on `connections` for sound graphs and their paths, on `alignment`, `schedule`, `lifetimes` and `buffer_plan`
-//! for the parts, and on `plan_model` for what a plan is.
+//! It stands on `connections` for sound graphs and their paths, on `alignment`, `schedule`, `lifetimes` and
+//! `buffer_plan` for the parts, and on `plan_model` for what a plan is.
 #![tactic(auto)]
 
 ghost use Rattle.std.specs.Prelude.{◌≡◌, ◌≤◌, ℕ, IfOk, length};
@@ -24,9 +25,11 @@ ghost use Rattle.plan_model.specs.Results.{HasSchedule, IsPlan};
 ghost use Rattle.plan_model.specs.Rules.{IsPeak};
 ghost use Rattle.plan_model.specs.Schedules.{IsSchedule};
 
+mod shared;
 #[cfg(test)]
 mod tests;
 
+pub use crate::shared::compile_shared;
 use alignment::align;
 use buffer_plan::{Homes, assign};
 use connections::Checked;

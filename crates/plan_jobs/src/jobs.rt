@@ -20,8 +20,8 @@ use players::Player;
 use pool_waves::{Buffer, Desk, Job};
 use std::alloc::{AllocError, Global};
 
-/// A job for each live node in the order of the waves, where in this list each wave ends, and how much work of each wave
-/// other threads can take off one.
+/// A job for each live node in the order of the waves, where in this list each wave ends, and how much work of each
+/// wave other threads can take off one.
 #[derive(Drop)]
 pub struct Jobs {
     pub jobs: Vec<Job<Player>>,

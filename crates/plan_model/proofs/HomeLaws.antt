@@ -1,12 +1,13 @@
 -- Each value has a buffer, and two values have the same only where they may share it.
 use Rattle.std.proofs.Common.{◌≡◌, ℕ, ◌<◌, ◌⊎◌, List, [], ◌∷◌, map, refl, sym, ap, subst, ◌∙◌, arith, inl, inr, cond, ◌==◌, Bool, true, false, Option, Some, None, get_or}
-use Rattle.std.specs.List.{Contains, find, zip}
+use Rattle.std.specs.List.{All, Contains, find, zip}
 use Rattle.std.specs.Cmp.{first_so, second_so}
 use Rattle.std.proofs.lemmas.Bool.{eqb-true}
 use Rattle.std.proofs.lemmas.List.Elements.{All-contains}
 use Rattle.graph_model.specs.Paths.{live_connections}
 use Rattle.graph_model.proofs.PathLaws.{at_tail, first_or_later, same_name, and_both}
 use Rattle.graph_model.specs.declared.graph.Connection.{Connection}
+use Rattle.graph_model.specs.declared.graph.Graph.{Graph}
 use Rattle.plan_model.specs.Buffers.{MayShare, IsAssignment}
 use Rattle.plan_model.specs.Homes.{is_home_of, buffer_at, buffer_of, HaveBuffers, BuffersAreApart}
 use Rattle.plan_model.specs.Lives.{Port, source, AreValues, ports_of, lives_of, life_of}
@@ -57,14 +58,16 @@ home_with None b e = absurd (cc)
 home_with (Some h) b e = let same : h.buffer ≡ b = cc in (h, refl, same)
 
 -- ---- each value has one
-pub have_buffers : HaveBuffers
-have_buffers g plan c k d l =
-    let values : AreValues g (ports_of plan.homes) = c Homes in
-    let assigned : IsAssignment (lives_of g plan.waves (ports_of plan.homes)) plan.homes plan.channels = c Channels in
+pub buffers_by : (g : Graph) (lives : List Life) (homes : List Home) (channels : ℕ) → AreValues g (ports_of homes) → IsAssignment lives homes channels
+    → All (λ c. (b : ℕ) × (buffer_of homes c.src.0 c.src_channel ≡ Some b) × (b < channels)) (live_connections g)
+buffers_by g lives homes channels values assigned k d l =
     let read : Connection = get_or (live_connections g) k d in
-    let has : Contains (ports_of plan.homes) (source read) = values.all k d l in
-    let found = finds_home plan.homes (source read) has in
-    (found.0.buffer, ap buffer_at found.2, All-contains (λ h. h.buffer < plan.channels) plan.homes found.0 assigned.below found.1)
+    let has : Contains (ports_of homes) (source read) = values.all k d l in
+    let found = finds_home homes (source read) has in
+    (found.0.buffer, ap buffer_at found.2, All-contains (λ h. h.buffer < channels) homes found.0 assigned.below found.1)
+
+pub have_buffers : HaveBuffers
+have_buffers g plan c = buffers_by g (lives_of g plan.waves (ports_of plan.homes)) plan.homes plan.channels (c Homes) (c Channels)
 
 -- ---- and no two that interfere the same
 lives_beside : (f : Port → Life) (homes : List Home) (h : Home) → Contains homes h

@@ -37,3 +37,12 @@ pub mod OneLaws
 pub mod HomeLaws
 pub mod SizeLaws
 pub mod ExampleIdle
+pub mod SharedLaws
+pub mod SharedBestLaws
+pub mod SharedCertifiedLaws
+pub mod SharedLifeLaws
+pub mod SharedPlaceLaws
+pub mod SharedOneLaws
+pub mod SharedSizeLaws
+pub mod ExampleShared
+pub mod ExampleSharedPlan

@@ -25,7 +25,7 @@ use Rattle.graph_model.proofs.PrintedLaws.{printed_is_longest}
 use Rattle.plan_model.proofs.ValueLaws.{values_are_listed}
 
 -- the homes of the lives of some ports are for these ports
-homes_are : (f : Port → Life) → ((x : Port) → ((f x).uid ≡ x.uid) × ((f x).channel ≡ x.channel)) → (ports : List Port) (homes : List Home)
+pub homes_are : (f : Port → Life) → ((x : Port) → ((f x).uid ≡ x.uid) × ((f x).channel ≡ x.channel)) → (ports : List Port) (homes : List Home)
     → AllZip (λ (x : Life) h. (h.uid ≡ x.uid) × (h.channel ≡ x.channel)) (map f ports) homes → ports_of homes ≡ ports
 homes_are f same [] [] h = refl
 homes_are f same [] (y ∷ homes) h = absurd h

@@ -13,15 +13,15 @@ use Rattle.graph_model.specs.declared.graph.Uid.{Uid}
 use Rattle.graph_model.specs.declared.graph.Graph.{Graph}
 use Rattle.plan_model.specs.Alignments.{IsBestBy, position_in, lines, total}
 use Rattle.plan_model.specs.Buffers.{IsAssignment}
-use Rattle.plan_model.specs.Certified.{IsCertified}
+use Rattle.plan_model.specs.Certified.{IsCertified, parts}
 use Rattle.plan_model.specs.Lives.{lives_of, ports_of}
 use Rattle.plan_model.specs.Results.{AlignmentIsOne, PlanIsOne}
-use Rattle.plan_model.specs.Rules.{AreLiveNodes, IsPeak}
+use Rattle.plan_model.specs.Rules.{AreLiveNodes, IsPeak, Parts, IsOptimalBy}
 use Rattle.plan_model.specs.declared.alignment.At.{At as Position}
 use Rattle.plan_model.specs.declared.alignment.LineAt.{LineAt}
 use Rattle.plan_model.specs.declared.buffers.Life.{Life}
 use Rattle.plan_model.specs.declared.plan.Plan.{Plan}
-use Rattle.plan_model.specs.declared.rule.Rule.TheVariants.{At, Lines, Total, Least, Homes, Channels, Peak}
+use Rattle.plan_model.specs.declared.rule.Rule.TheVariants.{At, Lines, Total, Least, Homes, Peak}
 use Rattle.plan_model.proofs.BestLaws.{best_is_one}
 use Rattle.plan_model.proofs.CertifiedLaws.{certified_is_optimal}
 use Rattle.graph_model.proofs.PrintedLaws.{printed_is_one}
@@ -83,6 +83,21 @@ peak_once lives waves channels p q a b =
           ]
     ]
 
+-- in either version, where the lives are the same
+pub channels_once : (cost : (ℕ → ℕ) → ℕ) (g : Graph) (a b : Parts) → a.lives ≡ b.lives → IsOptimalBy cost g a → IsOptimalBy cost g b
+    → a.channels ≡ b.channels
+channels_once cost g a b same p q =
+    let one = p.least_channels b.homes b.channels (subst (λ ls. IsAssignment ls b.homes b.channels) (sym same) q.assignment) in
+    let two = q.least_channels a.homes a.channels (subst (λ ls. IsAssignment ls a.homes a.channels) same p.assignment) in
+    omega arith
+
+pub peak_alike : (a b : Parts) → a.waves ≡ b.waves → a.lives ≡ b.lives → a.channels ≡ b.channels
+    → IsPeak a.lives (length a.waves) a.channels a.peak → IsPeak b.lives (length b.waves) b.channels b.peak → a.peak ≡ b.peak
+peak_alike a b waves lives channels p q =
+    peak_once b.lives (length b.waves) b.channels a.peak b.peak
+    (subst (λ ws. IsPeak b.lives (length ws) b.channels a.peak) waves
+    (subst (λ n. IsPeak b.lives (length a.waves) n a.peak) channels (subst (λ ls. IsPeak ls (length a.waves) a.channels a.peak) lives p))) q
+
 module _ (g : Graph) (sound : IsSound g) (a b : Plan) (c : IsCertified g a) (d : IsCertified g b) (waves : a.waves ≡ b.waves) where
   same_ports : ports_of a.homes ≡ ports_of b.homes
   same_ports = values_are_unique g (ports_of a.homes) (ports_of b.homes) (c Homes) (d Homes)
@@ -92,16 +107,10 @@ module _ (g : Graph) (sound : IsSound g) (a b : Plan) (c : IsCertified g a) (d :
 
   pub same_channels : a.channels ≡ b.channels
   same_channels =
-      let one = (certified_is_optimal g a sound c).least_channels b.homes b.channels (subst (λ ls. IsAssignment ls b.homes b.channels) (sym same_lives) (d Channels)) in
-      let two = (certified_is_optimal g b sound d).least_channels a.homes a.channels (subst (λ ls. IsAssignment ls a.homes a.channels) same_lives (c Channels)) in
-      omega arith
+      channels_once (total g) g (parts g a) (parts g b) same_lives (certified_is_optimal g a sound c) (certified_is_optimal g b sound d)
 
   pub same_peak : a.peak ≡ b.peak
-  same_peak =
-      peak_once (lives_of g b.waves (ports_of b.homes)) (length b.waves) b.channels a.peak b.peak
-      (subst (λ ws. IsPeak (lives_of g b.waves (ports_of b.homes)) (length ws) b.channels a.peak) waves
-      (subst (λ n. IsPeak (lives_of g b.waves (ports_of b.homes)) (length a.waves) n a.peak) same_channels
-      (subst (λ ls. IsPeak ls (length a.waves) a.channels a.peak) same_lives (c Peak)))) (d Peak)
+  same_peak = peak_alike (parts g a) (parts g b) waves same_lives same_channels (c Peak) (d Peak)
 
 pub plan_is_one : PlanIsOne
 plan_is_one g mode a b sound p q =

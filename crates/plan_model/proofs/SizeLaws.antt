@@ -1,5 +1,5 @@
 -- How large the numbers of a certified plan can be.
-use Rattle.std.proofs.Common.{◌≡◌, ℕ, suc, ◌+◌, ◌<◌, ◌≤◌, List, [], ◌∷◌, length, refl, sym, ap, subst, arith, cond, ◌==◌, ◌&&◌, Bool, true, false, count_by}
+use Rattle.std.proofs.Common.{◌≡◌, ℕ, suc, ◌+◌, ◌<◌, ◌≤◌, List, [], ◌∷◌, length, map, refl, sym, ap, subst, arith, cond, ◌==◌, ◌&&◌, Bool, true, false, count_by}
 use Rattle.std.specs.Prelude.{nat_lt}
 use Rattle.std.specs.List.{All, AllByRecursion, filter}
 use Rattle.std.proofs.lemmas.Bool.Decides.{nat_tests}
@@ -8,12 +8,13 @@ use Rattle.std.proofs.lemmas.List.Elements.{All-from_recursion, recursion_from_A
 use Rattle.graph_model.specs.Answers.{delay}
 use Rattle.graph_model.specs.Graphs.{output_name}
 use Rattle.graph_model.specs.Paths.{is_live, live_connections}
+use Rattle.graph_model.specs.Sound.{IsSound}
 use Rattle.graph_model.specs.declared.graph.Connection.{Connection}
 use Rattle.graph_model.specs.declared.graph.Graph.{Graph}
 use Rattle.plan_model.specs.Alignments.{lines_from}
-use Rattle.plan_model.specs.Buffers.{is_through, is_dying, is_born, need_of_wave}
+use Rattle.plan_model.specs.Buffers.{is_through, is_dying, is_born, need_of_wave, AreLives}
 use Rattle.plan_model.specs.Certified.{positions}
-use Rattle.plan_model.specs.Lives.{Port, source, is_before, with_port, sources_of, values, lives_of, life_of, ports_of}
+use Rattle.plan_model.specs.Lives.{Port, AreValues, source, is_before, with_port, sources_of, values, life_of, ports_of}
 use Rattle.plan_model.specs.Rules.{IsPeak}
 use Rattle.plan_model.specs.Sizes.{DelaysAreSmall, ChannelsAreFew}
 use Rattle.plan_model.specs.declared.alignment.LineAt.{LineAt}
@@ -91,18 +92,22 @@ filter_below p (x ∷ xs) = go (p x) (filter_below p xs)
     go true l = omega arith
     go false l = omega arith
 
-pub channels_are_few : ChannelsAreFew
-channels_are_few g plan sound c =
-    let lives = lives_of g plan.waves (ports_of plan.homes) in
-    let peak : IsPeak (lives_of g plan.waves (ports_of plan.homes)) (length plan.waves) plan.channels plan.peak = c Peak in
-    let ordered = are_lives g plan.waves (ports_of plan.homes) sound (c Waves) (c Homes) in
-    let born : AllByRecursion (λ x. x.born < x.dies) (lives_of g plan.waves (ports_of plan.homes)) =
-    recursion_from_All (λ x. x.born < x.dies) (lives_of g plan.waves (ports_of plan.homes)) (λ k d l. (ordered.within k d l).0) in
-    let need = need_below plan.peak (lives_of g plan.waves (ports_of plan.homes)) born in
-    let full = peak.full in
-    let count = length-map (ports_of plan.homes) (λ (x : Port). life_of g plan.waves x.uid x.channel) in
-    let same : length (ports_of plan.homes) ≡ length (values g) = ap length (values_are_unique g (ports_of plan.homes) (values g) (c Homes) (values_are_listed g)) in
+-- whatever lives the values have
+pub few_by : (g : Graph) (f : Port → Life) (ports : List Port) (waves channels peak : ℕ) → IsSound g → AreValues g ports → AreLives (map f ports) waves
+    → IsPeak (map f ports) waves channels peak → channels ≤ 8192
+few_by g f ports waves channels peak sound are ordered top =
+    let born : AllByRecursion (λ x. x.born < x.dies) (map f ports) =
+    recursion_from_All (λ x. x.born < x.dies) (map f ports) (λ k d l. (ordered.within k d l).0) in
+    let need = need_below peak (map f ports) born in
+    let full = top.full in
+    let count = length-map ports f in
+    let same : length ports ≡ length (values g) = ap length (values_are_unique g ports (values g) are (values_are_listed g)) in
     let few = few_sources (live_connections g) in
     let fewer = filter_below (λ (d : Connection). is_live g d.dst.0) g.connections in
     let fits = sound.fits.1 in
     omega arith
+
+pub channels_are_few : ChannelsAreFew
+channels_are_few g plan sound c =
+    few_by g (λ x. life_of g plan.waves x.uid x.channel) (ports_of plan.homes) (length plan.waves) plan.channels plan.peak sound (c Homes)
+    (are_lives g plan.waves (ports_of plan.homes) sound (c Waves) (c Homes)) (c Peak)

@@ -13,3 +13,11 @@ pub mod Homes
 pub mod Sizes
 pub mod Optimal
 pub mod Results
+pub mod SharedLines
+pub mod SharedFlows
+pub mod SharedDuality
+pub mod SharedLives
+pub mod SharedCertified
+pub mod SharedPlaces
+pub mod SharedResults
+pub mod SharedSizes

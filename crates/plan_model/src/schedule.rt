@@ -32,3 +32,14 @@ impl Wave {
         })
     }
 }
+
+/// Equal waves, in memory of their own. Fails only where memory is wanting.
+pub(crate) fn copy_waves(alloc: Global, waves: &List<Wave>) -> Result<List<Wave>, AllocError>
+    ensures { IfOk result (λ copies. copies ≡ waves.now) }
+{
+    let mut copies = List::new(alloc);
+    for wave in waves.as_slice() {
+        copies.push(wave.copy(alloc)?)?;
+    }
+    Ok(copies)
+}

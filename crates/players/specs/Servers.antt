@@ -1,5 +1,5 @@
--- What a node does with its frames: at the entry it gives those of the block, at the exit it keeps them, between the two a
--- processor takes them.
+-- What a node does with its frames: at the entry it gives those of the block, at the exit it keeps them, between the
+-- two a processor takes them.
 use Rattle.std.specs.Prelude.{◌≡◌, ℕ, ◌+◌, ◌<◌, pos, [], length, reverse, slice_index_or, get_or}
 use Rattle.graph_model.specs.Histories.{Frame, History, before, newest}
 use Rattle.graph_model.specs.Kernels.{IsFrameWithin}

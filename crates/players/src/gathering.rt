@@ -103,8 +103,9 @@ fn silence(channels: &[usize], count: usize, sums: &mut [i64])
     }
 }
 
-/// Takes a sub-block of a node's inputs, from the frame `first` on, each through its line, and sums them per channel: the
-/// sample of channel d in frame t stands at d * count + t. The rows of the channels that no wire feeds are in `silent`.
+/// Takes a sub-block of a node's inputs, from the frame `first` on, each through its line, and sums them per channel:
+/// the sample of channel d in frame t stands at d * count + t. The rows of the channels that no wire feeds are in
+/// `silent`.
 pub fn gather(
     wires: &[Wire],
     silent: &[usize],

@@ -1,5 +1,5 @@
--- The lists on the desks of a wave's jobs and those of the buffers of their values change places. A look-up by place names
--- what it gives past the end, and says nothing of it: d of desks and jobs, e of homes.
+-- The lists on the desks of a wave's jobs and those of the buffers of their values change places. A look-up by place
+-- names what it gives past the end, and says nothing of it: d of desks and jobs, e of homes.
 use Rattle.std.specs.Prelude.{◌≡◌, ◌≢◌, ℕ, ◌<◌, ℤ, List, [], length, map, slice_index_or}
 use Rattle.pool_waves.specs.declared.job.Home.{Home}
 use Rattle.pool_waves.specs.declared.job.Desk.{Desk}

@@ -1,3 +1,5 @@
+//! The samples of one value in a block.
+
 ghost use Rattle.std.specs.Prelude.{◌≡◌, ◌+◌, ◌<◌, ◌≤◌, ◌++◌, ℤ, pos, List, [], drop, length, replicate, take, IfOk, slice_index_or, slice_set};
 
 use std::alloc::{AllocError, Global};

@@ -1,3 +1,5 @@
+//! The lists of a wave's values change places with those of their buffers.
+
 ghost use Rattle.std.specs.Prelude.{◌≡◌, ℕ, ◌<◌, length};
 ghost use Rattle.pool_waves.specs.Exchanges.{AreApart, AreWithin, Exchanged, HaveLists, IsDistinct, SameBut, Swapped, buffer_at, desks};
 

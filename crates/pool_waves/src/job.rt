@@ -1,3 +1,5 @@
+//! A job of a wave: its node, the homes of its values, and what it does.
+
 use crate::buffer::Buffer;
 
 /// A value that a job bears: which output channel of its node it is, and its buffer's place in the pool.

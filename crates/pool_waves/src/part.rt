@@ -1,3 +1,5 @@
+//! What a job does in a block, as a trait.
+
 ghost use Rattle.std.specs.Prelude.{◌≡◌, length};
 
 use crate::buffer::Buffer;

@@ -1,3 +1,5 @@
+//! What the jobs of a wave read, and the call that runs a wave.
+
 ghost use Rattle.pool_waves.specs.Waves.{IsWave, WaveRan};
 
 use crate::buffer::Buffer;

@@ -1,15 +1,15 @@
 //! The samples that a graph makes of its input, on whole streams, at any alignment of its paths.
 //!
-//! [`answer_at`] takes the live nodes of a checked graph in their order, each standing at the position that an alignment
-//! gives it, and [`answer`] takes them at their reaches, where the longest paths into them end. What comes into a node
-//! is, channel by channel, the sum of what its connections bring, each held back until the node; what goes out is made
-//! frame by frame by a processor of its kind. Each live node's stream is one list of interleaved samples, and all are
-//! kept.
+//! [`answer_at`] takes the live nodes of a checked graph in their order, each standing at the position that an
+//! alignment gives it, and [`answer`] takes them at their reaches, where the longest paths into them end. What comes
+//! into a node is, channel by channel, the sum of what its connections bring, each held back until the node; what
+//! goes out is made frame by frame by a processor of its kind. Each live node's stream is one list of interleaved
+//! samples, and all are kept.
 //!
 //! It promises, sample for sample and for every sound graph, that at the reaches the result is the answer of the
 //! mathematical graph, as `graph_model` defines it, and at any other alignment the same answer, later by as much as the
-//! output node stands after its reach. That no sum overflows is proved of the bounds that a sound graph keeps. In `laws`
-//! it says of the definitions that positions show in no other way.
+//! output node stands after its reach. That no sum overflows is proved of the bounds that a sound graph keeps. In
+//! `laws` it says of the definitions that positions show in no other way.
 //!
 //! It stands on `graph_model`, `topology` and `connections`, on `plan_model` for alignments, and on `processors` for
 //! the streams of the kinds.

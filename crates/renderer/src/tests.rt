@@ -143,7 +143,8 @@ fn stands(uid: u32, at: u64) -> At
     At { uid: Uid(uid), at }
 }
 
-/// The graph that fans out, with an alignment that has the output node at `late` and the others as early as they can be.
+/// The graph that fans out, with an alignment that has the output node at `late` and the others as early as they can
+/// be.
 fn fan_out(alloc: Global, late: u64) -> Result<(Graph, List<At>), AllocError>
     requires after { 5 ≤ late }
     requires near { late ≤ 2 ^ 26 }

@@ -22,6 +22,12 @@ use Rattle.shortest_paths.proofs.EndLemmas.{found_within}
 use Rattle.shortest_paths.proofs.FinalLemmas.{room_falls}
 use Rattle.shortest_paths.proofs.RoundLemmas.{found_in_none}
 
+-- a loop is settled, where no cycle costs less than 0
+pub loop_settled : (edges : List Edge) (best : List (Option Best)) (e : Edge) → HasNoNegativeCycle edges → Contains edges e → e.head ≡ e.tail → IsSettled best e
+loop_settled edges best e none has same b f =
+    let cycle = none e.tail (e ∷ []) (has, refl, same) in
+    (b, subst (λ x. found best x ≡ Some b) (sym same) f, omega (arith, ints))
+
 -- an element of a list with one more in front
 in_more : {X : Type 0} (xs : List X) (y x : X) → Contains xs x → Contains (y ∷ xs) x
 in_more xs y x h = let l = h.1 in (suc h.0, omega arith, h.2)

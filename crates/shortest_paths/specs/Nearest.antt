@@ -19,8 +19,8 @@ Permits edges numbers = (e : Edge) → Contains edges e → number_of numbers e.
 abbrev pub AreSmall : List ℤ → Type 0
 AreSmall numbers = (v : ℕ) → IsWithin (2 ^ 60) (number_of numbers v)
 
--- A point to which a walk was found waits by its reduced cost, which is the cost less the number of the point, and then by
--- its cost.
+-- A point to which a walk was found waits by its reduced cost, which is the cost less the number of the point, and
+-- then by its cost.
 abbrev pub Waiter : Type 0
 Waiter = Reverse (ℤ × ℤ × ℕ)
 

@@ -18,15 +18,15 @@ abbrev pub Misses : ℕ → List Edge → ℕ → Type 0
 Misses x [] u = x ≢ u
 Misses x (e ∷ back) u = (x ≢ u) × Misses x back e.tail
 
--- A walk from `from` to v, written from its last edge back to its first, meets no point twice, and the best walk to each
--- of its points costs no more than this one has cost there.
+-- A walk from `from` to v, written from its last edge back to its first, meets no point twice, and the best walk to
+-- each of its points costs no more than this one has cost there.
 abbrev pub Traced : List Edge → ℕ → List (Option Best) → List Edge → ℕ → Type 0
 Traced edges from best [] v = v ≡ from
 Traced edges from best (e ∷ back) v =
     Contains edges e × (e.head ≡ v) × Misses v back e.tail × AtMost best v (e.cost +ℤ cost_of back) × Traced edges from best back e.tail
 
--- The best walk b to v ends with an edge whose tail has a walk that is cheap enough for it. Where it is just so cheap, the
--- tail's walk is older: its stamp, the time at which it was found, is less.
+-- The best walk b to v ends with an edge whose tail has a walk that is cheap enough for it. Where it is just so
+-- cheap, the tail's walk is older: its stamp, the time at which it was found, is less.
 pub record LastOf (edges : List Edge) (best : List (Option Best)) (stamp : ℕ → ℕ) (v : ℕ) (b : Best) : Type 0 where
   pub index : ℕ
   pub edge : Edge

@@ -1,7 +1,7 @@
 -- Walks over a list of directed edges: their costs, the least costs, and the tree of least walks.
 --
--- The words are those of Ahuja, Magnanti and Orlin, Network Flows, chapters 4 and 5. A point of theirs is a node, a cost
--- a length, a least cost a shortest path distance, and the tree a shortest path tree of predecessors.
+-- The words are those of Ahuja, Magnanti and Orlin, Network Flows, chapters 4 and 5. A point of theirs is a node, a
+-- cost a length, a least cost a shortest path distance, and the tree a shortest path tree of predecessors.
 use Rattle.std.specs.Prelude.{◌≡◌, ℕ, zero, suc, ◌<◌, ℤ, pos, negsuc, ◌+ℤ◌, neg_ℤ, ◌≤ℤ◌, List, [], ◌∷◌, slice_get, slice_index_or, Option, Some}
 use Rattle.std.specs.List.{Contains}
 use Rattle.shortest_paths.specs.declared.edges.Edge.{Edge}

@@ -67,7 +67,8 @@ fn wait(
     Ok(())
 }
 
-// Takes the walk by the edge at an index, where it is cheaper than the best one to its head, which then waits.
+// Takes the walk by the edge at an index, where it is cheaper than the best one to its head, which then waits. A loop
+// gives nothing, since none costs less than 0.
 fn relax_at(
     best: &mut [Option<Best>],
     waiting: &mut BinaryHeap<Reverse<(i64, i64, u32)>>,
@@ -91,6 +92,9 @@ fn relax_at(
     ensures here { OnOk result ((e : Edge) → slice_get (usable edges.now limits.now) index ≡ Some e → Waits best.new numbers.now (heap_items waiting.new) e) }
 {
     let edge = usable_edge(edges, limits, index);
+    if edge.head == edge.tail {
+        return Ok(());
+    }
     if relax(best, index, edge) {
         wait(best, waiting, numbers, edge.head)?;
     }
@@ -257,7 +261,8 @@ fn moved(numbers: &[i64], point: usize, limit: i64) -> i64
     numbers[point] + limit
 }
 
-// Gives a point the cost and the last edge of its best walk, if that is within the limit; else its number moves by the limit.
+// Gives a point the cost and the last edge of its best walk, if that is within the limit; else its number moves by
+// the limit.
 fn cut_at(
     best: &[Option<Best>],
     limit: i64,
@@ -328,17 +333,19 @@ impl Searcher {
         })
     }
 
-    /// A search from a point: it takes the nearest points first, and stops as soon as enough units are wanted at those that it
-    /// took. It answers the point at which it stopped, where units are wanted, or none where all points are in the tree.
+    /// A search from a point: it takes the nearest points first, and stops as soon as enough units are wanted at
+    /// those that it took. It answers the point at which it stopped, where units are wanted, or none where all points
+    /// are in the tree.
     ///
-    /// There are at most 2^14 points and at most 2^17 edges between them, with costs of at most 2^46 in size. The last of
-    /// them, as many as there are `limits`, have these limits: an edge of limit 0 counts for nothing. Some walk leads from
-    /// `from` to each point. The numbers are at most 2^60 in size, and no edge gives its head less than its number.
+    /// There are at most 2^14 points and at most 2^17 edges between them, with costs of at most 2^46 in size. The
+    /// last of them, as many as there are `limits`, have these limits: an edge of limit 0 counts for nothing. Some
+    /// walk leads from `from` to each point. The numbers are at most 2^60 in size, and no edge gives its head less
+    /// than its number.
     ///
-    /// Afterwards that is so again, and the number of `from` is 0. A point in the tree has in `last` the index of an edge
-    /// that ends a least walk to it, and its number is the cost of that walk; from it the edges of `last` lead back to
-    /// `from` in fewer steps than there are points. The others have None in `last`, as `from` has. The call fails only for
-    /// want of memory; the searcher is of no use then.
+    /// Afterwards that is so again, and the number of `from` is 0. A point in the tree has in `last` the index of an
+    /// edge that ends a least walk to it, and its number is the cost of that walk; from it the edges of `last` lead
+    /// back to `from` in fewer steps than there are points. The others have None in `last`, as `from` has. The call
+    /// fails only for want of memory; the searcher is of no use then.
     pub fn run(
         &mut self,
         edges: &[Edge],
@@ -452,21 +459,23 @@ fn search_tree(
     Ok(stop.point)
 }
 
-// No walk is found any more.
+// No walk is found any more. Where none was, nothing is written.
 fn forget(best: &mut [Option<Best>])
     ensures { best.new ≡ replicate (length best.old) None }
 {
     for index in 0..best.len() {
-        best[index] = None;
+        if best[index].is_some() {
+            best[index] = None;
+        }
     }
 }
 
 /// Least walks from the point `from` to each of the points 0 to `points - 1`, where no edge costs less than 0.
 ///
-/// There are at most 2^14 points and at most 2^17 edges, each between two of the points, with a cost of at most 2^46. Some
-/// walk leads from `from` to each point. The answer is as that of [`distances`](crate::distances): the least cost of a walk
-/// to each point, and the index of an edge that ends such a walk, None at `from` alone. The call fails only for want of
-/// memory.
+/// There are at most 2^14 points and at most 2^17 edges, each between two of the points, with a cost of at most 2^46.
+/// Some walk leads from `from` to each point. The answer is as that of [`distances`](crate::distances): the least
+/// cost of a walk to each point, and the index of an edge that ends such a walk, None at `from` alone. The call fails
+/// only for want of memory.
 pub fn nearest(
     alloc: Global,
     points: u32,

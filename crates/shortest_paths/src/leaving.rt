@@ -1,6 +1,6 @@
 //! The edges that leave each point.
 
-ghost use Rattle.std.specs.Prelude.{◌≡◌, ◌<◌, ◌≤◌, ◌^◌, length, IfOk, replicate, None};
+ghost use Rattle.std.specs.Prelude.{◌≡◌, ◌<◌, ◌≤◌, ◌^◌, length, IfOk, replicate, slice_index_or, None};
 ghost use Rattle.std.specs.List.{All};
 ghost use Rattle.shortest_paths.specs.Walks.{Joins};
 ghost use Rattle.shortest_paths.specs.Leaving.{IsLeaving};
@@ -33,6 +33,24 @@ impl Leaving {
             newest[edge.tail as usize] = Some(index as u32);
         }
         Ok(Leaving { newest, older })
+    }
+
+    /// The last edge that leaves a point, if one does.
+    pub fn newest(&self, point: u32) -> Option<u32>
+        requires point { point < length self.now.newest.items }
+
+        ensures { result ≡ slice_index_or self.now.newest.items point None }
+    {
+        self.newest[point as usize]
+    }
+
+    /// The last edge before this one that leaves the same point, if one does.
+    pub fn older(&self, index: u32) -> Option<u32>
+        requires index { index < length self.now.older.items }
+
+        ensures { result ≡ slice_index_or self.now.older.items index None }
+    {
+        self.older[index as usize]
     }
 }
 

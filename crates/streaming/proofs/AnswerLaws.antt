@@ -69,10 +69,10 @@ module _ (e e' : Parts) (sound : IsSound e.graph) (new : Stands e []) where
       held_bytes i k came (λ file. Stands e' (first_frames i file k) × IsAppended o.name.now (answer_put i o e.graph file k) old held) old comes.frames
       (λ file are. (stands_so i o k come came went old comes file are, subst (λ piece. IsAppended o.name.now piece old held) (answers_so i o k come came went old comes file are) appended))
 
-  pub has_put_part : (i : Incoming) (o : Outgoing) (k : ℕ) (old held : Option Holding) → ins e ≡ i.head.channels → BreaksOff i o 0 k old e held e' → HasPutPart i o k old e held
+  pub has_put_part : (i : Incoming) (o : Outgoing) (k : ℕ) (old held : Option Holding) → ins e ≡ i.head.channels → BreaksOff i o 0 k old e held e' → HasPutPart i o k old e held e'
   has_put_part i o k old held come (came, went, comes, appended) =
-      held_bytes i k came (λ file. IsPartAppended o.name.now (answer_put i o e.graph file k) old held) old comes.frames
-      (λ file are. subst (λ piece. IsPartAppended o.name.now piece old held) (answers_so i o k come came went old comes file are) appended)
+      held_bytes i k came (λ file. Stands e' (first_frames i file k) × IsPartAppended o.name.now (answer_put i o e.graph file k) old held) old comes.frames
+      (λ file are. (stands_so i o k come came went old comes file are, subst (λ piece. IsPartAppended o.name.now piece old held) (answers_so i o k come came went old comes file are) appended))
 
 -- ---- a first part of what comes in
 interleaved-both : (a b : History) → interleaved (a ++ b) ≡ interleaved b ++ interleaved a

@@ -107,7 +107,7 @@ module _ (i : Incoming) (o : Outgoing) (e : Parts) (old : Option Holding) (lengt
   part_put new more = (k, more, has_put e e' may.sound new i o k old held may.come going.streamed)
 
   pub broken_put : (n : ℕ) (e'' : Parts) (new_held : Option Holding) → Stands e [] → k + n ≤ all_frames i → BreaksOff i o k n held e' new_held e''
-      → (m : ℕ) × (m ≤ all_frames i) × HasPutPart i o m old e new_held
+      → (m : ℕ) × (m ≤ all_frames i) × HasPutPart i o m old e new_held e''
   broken_put n e'' new_held new within broken = (
     k + n,
     within,

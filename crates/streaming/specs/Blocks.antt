@@ -73,8 +73,9 @@ HasPut i o k old e new e' =
     HeldBytes i.name.now old (λ file. Stands e' (first_frames i file k) × IsAppended o.name.now (answer_put i o e.graph file k) old new)
 
 -- or the first part of that
-abbrev pub HasPutPart : Incoming → Outgoing → ℕ → Option Holding → Parts → Option Holding → Type 0
-HasPutPart i o k old e new = HeldBytes i.name.now old (λ file. IsPartAppended o.name.now (answer_put i o e.graph file k) old new)
+abbrev pub HasPutPart : Incoming → Outgoing → ℕ → Option Holding → Parts → Option Holding → Parts → Type 0
+HasPutPart i o k old e new e' =
+    HeldBytes i.name.now old (λ file. Stands e' (first_frames i file k) × IsPartAppended o.name.now (answer_put i o e.graph file k) old new)
 
 -- room for blocks of so many frames
 pub record HasRoom (i : Incoming) (o : Outgoing) (block : ℕ) (room : Room) : Type 0 where

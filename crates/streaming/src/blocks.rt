@@ -218,13 +218,13 @@ fn stream_block<T: Threads + Sync, F: Folder>(
     }
 }
 
-/// Takes all frames that come in through the engine, in blocks of these lengths, which are repeated in turn, the last of
-/// them cut to what is left. What is kept of each block is one append, if it is any. It takes no memory.
+/// Takes all frames that come in through the engine, in blocks of these lengths, which are repeated in turn, the last
+/// of them cut to what is left. What is kept of each block is one append, if it is any. It takes no memory.
 ///
 /// # Errors
 ///
 /// `Read` where a block could not be read, and then just the blocks before it were rendered and appended; `Write` where
-/// a block could not be appended whole.
+/// a block could not be appended whole, which was rendered before.
 pub fn stream<T: Threads + Sync, F: Folder>(
     rt: &T,
     folder: &mut F,
@@ -243,7 +243,7 @@ pub fn stream<T: Threads + Sync, F: Folder>(
     ensures done { OnOk result (HasPut from.now to.now (all_frames from.now) (F.held folder.old) engine.old (F.held folder.new) engine.new) }
     ensures unread { result ≡ Fails Fault.Read → (k : ℕ) × (k < all_frames from.now) × HasPut from.now to.now k (F.held folder.old) engine.old (F.held folder.new) engine.new }
     ensures read_failed { result ≡ Fails Fault.Read → Rose (F.read_faults folder.old) (F.read_faults folder.new) }
-    ensures broken { result ≡ Fails Fault.Write → (k : ℕ) × (k ≤ all_frames from.now) × HasPutPart from.now to.now k (F.held folder.old) engine.old (F.held folder.new) }
+    ensures broken { result ≡ Fails Fault.Write → (k : ℕ) × (k ≤ all_frames from.now) × HasPutPart from.now to.now k (F.held folder.old) engine.old (F.held folder.new) engine.new }
     ensures write_failed { result ≡ Fails Fault.Write → IsMissing to.now.name.now (F.held folder.old) ⊎ Rose (F.write_faults folder.old) (F.write_faults folder.new) }
     ensures reads { F.read_faults folder.old ≤ F.read_faults folder.new }
     ensures writes { F.write_faults folder.old ≤ F.write_faults folder.new }

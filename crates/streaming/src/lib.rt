@@ -5,9 +5,9 @@
 //! before. [`render_whole`] renders frames that are in memory.
 //!
 //! It promises that the frames that came in are those of the file and then silence, without gap or repetition, whatever
-//! the lengths of the blocks are; that the engine rendered just these; that all that is kept of its output stands at the
-//! end of the file, in the order of time; and, where a read or an append failed, that the same holds of the frames up to
-//! there.
+//! the lengths of the blocks are; that the engine rendered just these; that all that is kept of its output stands at
+//! the end of the file, in the order of time; and, where a read or an append failed, that the same holds of the
+//! frames up to there.
 //!
 //! It stands on `engine`, on `wav_pcm` for frames in files, and on what `gh_outside` says of a folder.
 #![tactic(auto)]

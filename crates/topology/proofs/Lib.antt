@@ -1,3 +1,4 @@
+pub mod IndexFacts
 pub mod LinkFacts
 pub mod OrderFacts
 pub mod CycleFacts

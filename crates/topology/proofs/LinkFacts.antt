@@ -1,19 +1,14 @@
 -- Connections and their links.
-use Rattle.std.proofs.Common.{◌≡◌, ℕ, ◌<◌, List, length, get_or, sym, ◌∙◌, ap, Some, true, ◌==◌, arith}
-use Rattle.std.specs.Prelude.{slice_get, is_some}
-use Rattle.std.specs.List.{Contains, position}
-use Rattle.std.proofs.lemmas.Bool.{eqb-true}
+use Rattle.std.proofs.Common.{◌≡◌, ℕ, ◌<◌, List, length, get_or, sym, ◌∙◌, ap, Some, arith}
+use Rattle.std.specs.Prelude.{slice_get}
+use Rattle.std.specs.List.{Contains}
 use Rattle.std.proofs.lemmas.List.{get_or-map, get_or_default, length-map}
 use Rattle.std.proofs.lemmas.List.Elements.{All-same, Contains-get_or}
 use Rattle.std.proofs.lemmas.Option.{slice_get-get_or}
-use Rattle.std.proofs.lemmas.List.Quantifiers.{position-Some}
 use Rattle.graph_model.specs.Graphs.{IsJoined, IsNode}
-use Rattle.graph_model.specs.declared.graph.Node.{Node}
 use Rattle.graph_model.specs.declared.graph.Connection.{Connection}
 use Rattle.graph_model.specs.declared.graph.Graph.{Graph}
 use Rattle.graph_model.specs.Named.{IsNamed, uid_at}
-use Rattle.graph_model.proofs.NameFacts.{any_node, name_is}
-use Rattle.graph_model.proofs.NodeFacts.{has_place}
 use Rattle.topology.specs.Links.{no_link, source, target, AreLinks}
 use Rattle.topology.specs.declared.ends.Link.{Link}
 
@@ -22,15 +17,6 @@ any_connection = record { src = record { 0 = 0 }; src_channel = 0; dst = record 
 
 abbrev pub connection_at : Graph → ℕ → Connection
 connection_at g e = get_or g.connections e any_connection
-
--- the index at which a name is found
-pub place_there : (g : Graph) (v : ℕ) → IsNode g v → is_some (position (λ (n : Node). n.uid.0 == v) g.nodes) ≡ true
-place_there g v node = has_place (λ (n : Node). n.uid.0 == v) g.nodes node
-
-pub place_named : (g : Graph) (v i : ℕ) → position (λ (n : Node). n.uid.0 == v) g.nodes ≡ Some i → (i < length g.nodes) × (uid_at g i ≡ v)
-place_named g v i is =
-    let at = position-Some (λ (n : Node). n.uid.0 == v) g.nodes i any_node is in
-    (at.0, name_is g i at.0 ∙ eqb-true (get_or g.nodes i any_node).uid.0 v at.1)
 
 -- both ends of a connection that was read are nodes
 pub ends_exist : (g : Graph) → IsNamed g → (cs : List Connection) → cs ≡ g.connections → (k : ℕ) (d : Connection) → k < length cs

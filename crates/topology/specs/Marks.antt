@@ -21,7 +21,8 @@ IsSpread ls marks = SpreadUpTo ls marks (length ls)
 abbrev pub KeepsMarks : List Bool → List Bool → Type 0
 KeepsMarks old new = (v : ℕ) → is_taken old v ≡ true → is_taken new v ≡ true
 
--- along one link: the source is marked anew, or all stays as it is and the link leads from no node without a mark to a marked one
+-- along one link: the source is marked anew, or all stays as it is and the link leads from no node without a mark to
+-- a marked one
 abbrev pub SpreadsAlong : Link → List Bool → List Bool → Bool → Type 0
 SpreadsAlong l old new true = (is_taken old l.to ≡ true) × (is_taken old l.from ≡ false) × (new ≡ slice_set old l.from true)
 SpreadsAlong l old new false = (new ≡ old) × (is_taken old l.to ≡ true → is_taken old l.from ≡ true)

@@ -7,7 +7,8 @@ use Rattle.graph_model.specs.Named.{uid_at}
 use Rattle.topology.specs.Blocks.{AreBlocks, is_taken}
 use Rattle.topology.specs.declared.ends.Link.{Link}
 
--- the nodes with a flag are those that stand in os, each of which was the next one at its place, and links block the others
+-- the nodes with a flag are those that stand in os, each of which was the next one at its place, and links block the
+-- others
 pub record AreTaken (g : Graph) (ls : List Link) (taken : List Bool) (blocks : List (Option ℕ)) (os : List ℕ) : Type 0 where
   pub flags : length taken ≡ length g.nodes
   pub slots : length blocks ≡ length g.nodes

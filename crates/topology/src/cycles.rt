@@ -1,3 +1,5 @@
+//! The closed walk that a graph without an order has.
+
 ghost use Rattle.std.specs.Prelude.{◌≡◌, ◌<◌, ◌≤◌, ◌^◌, IfOk, length, false, reverse};
 ghost use Rattle.graph_model.specs.Checks.{IsClosedWalk};
 ghost use Rattle.graph_model.specs.declared.graph.Graph.{Graph};

@@ -3,10 +3,11 @@
 ghost use Rattle.std.specs.Prelude.{◌≡◌, ◌<◌, IfOk, length};
 ghost use Rattle.graph_model.specs.Graphs.{IsNode};
 ghost use Rattle.graph_model.specs.Named.{IsNamed, uids_of, uid_at};
-ghost use Rattle.topology.specs.Links.{AreLinks};
+ghost use Rattle.topology.specs.Links.{AreIndexes, AreLinks};
 
 use graph_model::{Graph, Uid};
 use std::alloc::{AllocError, Global};
+use std::collections::HashMap;
 
 /// The two ends of a connection, by the indexes of their nodes: their places in the graph's list, from 0.
 #[derive(Clone, Copy, Debug, PartialEq, Eq)]
@@ -25,13 +26,26 @@ pub(crate) fn uids(alloc: Global, graph: &Graph) -> Result<Vec<u32>, AllocError>
     nodes.iter().map(|node| node.uid.0).collect(alloc)
 }
 
-/// The index of the node of a name that is one's.
-pub fn index_of(graph: &Graph, uid: Uid) -> usize
-    requires { IsNode graph.now uid.0 }
+/// The index of a node for each name that is one's. It fails only for want of memory.
+pub fn indexes(alloc: Global, graph: &Graph) -> Result<HashMap<u32, usize>, AllocError>
+    ensures { IfOk result (AreIndexes graph.now) }
+{
+    let mut indexes = HashMap::new(alloc);
+    let nodes = graph.nodes.as_slice();
+    for index in 0..nodes.len() {
+        indexes.insert(nodes[index].uid.0, index)?;
+    }
+    Ok(indexes)
+}
+
+/// The index of the node of a name that is one's, as `indexes` has it.
+pub fn index_of(graph: &Graph, indexes: &HashMap<u32, usize>, uid: Uid) -> usize
+    requires indexes { AreIndexes graph.now indexes.now }
+    requires node { IsNode graph.now uid.0 }
     ensures within { result < length graph.now.nodes }
     ensures name { uid_at graph.now result ≡ uid.0 }
 {
-    graph.index_of(uid).unwrap()
+    *indexes.get(&uid.0).unwrap()
 }
 
 /// A link for each connection, in the graph's order. It fails only for want of memory.
@@ -39,11 +53,12 @@ pub fn links(alloc: Global, graph: &Graph) -> Result<Vec<Link>, AllocError>
     requires { IsNamed graph.now }
     ensures { IfOk result (λ v. AreLinks graph.now v.items) }
 {
+    let indexes = indexes(alloc, graph)?;
     let mut links = Vec::new(alloc);
     for connection in graph.connections.as_slice() {
         links.push(Link {
-            from: index_of(graph, connection.src),
-            to: index_of(graph, connection.dst),
+            from: index_of(graph, &indexes, connection.src),
+            to: index_of(graph, &indexes, connection.dst),
         })?;
     }
     Ok(links)

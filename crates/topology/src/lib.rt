@@ -22,7 +22,7 @@ mod orders;
 mod reaches;
 
 pub use cycles::Cycle;
-pub use ends::{Link, index_of, links};
+pub use ends::{Link, index_of, indexes, links};
 pub use marks::live;
 pub use orders::order;
 pub use reaches::{Reach, longest};

@@ -1,3 +1,5 @@
+//! The one order of the nodes, the free node of least name first.
+
 ghost use Rattle.std.specs.Prelude.{◌≡◌, ℕ, ◌<◌, length, true, false, IfOk, IfErr, MatchOption, MatchResult};
 ghost use Rattle.graph_model.specs.Checks.{IsClosedWalk};
 ghost use Rattle.graph_model.specs.Paths.{IsAcyclic};

@@ -1,3 +1,5 @@
+//! How late a signal can come at each node, and the longest path that is printed.
+
 ghost use Rattle.std.specs.Prelude.{◌≡◌, ℕ, ◌<◌, ◌^◌, length, slice_index, IfOk};
 ghost use Rattle.graph_model.specs.Paths.{IsAcyclic};
 ghost use Rattle.graph_model.specs.Named.{IsNamed, HasOneOutput, latencies_of};

@@ -1,6 +1,5 @@
 -- The sizes of a sample, one by one.
 use Rattle.std.proofs.Common.{◌≡◌, ℕ, ◌-◌, ◌*◌, ◌/◌, ◌%◌, ◌^◌, ℤ, pos, inl, inr, ◌≤ℤ◌, ◌-ℤ◌, ◌+ℤ◌, ◌*ℤ◌, sym, ap, ◌∙◌, subst, refl, arith, to_z, of_z, w64, length}
-use mir.Syntax.{w128}
 use mir.Val.{SFits}
 use Rattle.std.proofs.lemmas.Int.{ints, clamps, to_z-of_z}
 use Rattle.byteorder.specs.Endian.{low_bytes}
@@ -55,15 +54,14 @@ clamped_within bits x size = by_size (Within x) bits size
     (omega (arith, ints, clamps), omega (arith, ints, clamps))
 
 -- what the code clamps to is the clamped sample
-pub clamped_is : (bits : ℕ) (x r k : ℤ) → IsSize bits → SFits w64 x → SFits w128 r → SFits w64 k
-    → r ≡ rounded (to_z w128 (of_z w128 (to_z w64 (of_z w64 x)))) (32 - bits)
-    → k ≡ clamped (to_z w128 (of_z w128 r)) (low_limit bits) (high_limit bits)
+pub clamped_is : (bits : ℕ) (x r k : ℤ) → IsSize bits → SFits w64 x → SFits w64 r → SFits w64 k
+    → r ≡ rounded (to_z w64 (of_z w64 x)) (32 - bits)
+    → k ≡ clamped (to_z w64 (of_z w64 r)) (low_limit bits) (high_limit bits)
     → to_z w64 (of_z w64 k) ≡ clamped (rounded x (32 - bits)) (least bits) (greatest bits)
 clamped_is bits x r k size x_fits r_fits k_fits r_is k_is =
-    let e : to_z w128 (of_z w128 (to_z w64 (of_z w64 x))) ≡ x = omega (arith, ints) in
     let l = limits bits size in
     to_z-of_z w64 k k_fits ∙ k_is
-    ∙ ap (λ y. clamped y (low_limit bits) (high_limit bits)) (to_z-of_z w128 r r_fits ∙ r_is ∙ ap (λ y. rounded y (32 - bits)) e)
+    ∙ ap (λ y. clamped y (low_limit bits) (high_limit bits)) (to_z-of_z w64 r r_fits ∙ r_is ∙ ap (λ y. rounded y (32 - bits)) (to_z-of_z w64 x x_fits))
     ∙ ap (λ y. clamped (rounded x (32 - bits)) y (high_limit bits)) l.0
     ∙ ap (clamped (rounded x (32 - bits)) (least bits)) l.1
 

@@ -19,7 +19,8 @@ is_wave_start bytes = bytes_eq (mark_at 0 bytes) (codes "RIFF") && bytes_eq (mar
 abbrev pub is_wave : List ℕ → Bool
 is_wave bytes = nat_le 12 (length bytes) && is_wave_start bytes
 
--- how many frames of a size stand in data of a size, of which so many bytes are there; 2^32 - 1 is a size that was left open
+-- how many frames of a size stand in data of a size, of which so many bytes are there; 2^32 - 1 is a size that was
+-- left open
 abbrev pub frames_in : ℕ → ℕ → ℕ → Result ℕ WavFault
 frames_in frame size there =
     if size == 2 ^ 32 - 1 then Ok (there / frame)

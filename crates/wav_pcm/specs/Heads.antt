@@ -1,4 +1,5 @@
--- The head of a RIFF/WAVE file of PCM with one chunk of format and one of data: 44 bytes. All numbers stand lowest byte first.
+-- The head of a RIFF/WAVE file of PCM with one chunk of format and one of data: 44 bytes. All numbers stand lowest
+-- byte first.
 use Rattle.std.specs.Prelude.{ℕ, ◌+◌, ◌-◌, ◌*◌, ◌/◌, ◌%◌, ◌^◌, List, ◌++◌, codes, length, replicate, ℤ}
 use Rattle.byteorder.specs.Endian.{little_bytes}
 use Rattle.wav_pcm.specs.Samples.{bytes_of}

@@ -12,7 +12,7 @@
 //! multiplied by 2^(32 - b).
 //!
 //! It stands on `byteorder` for numbers in bytes, `thiserror` for the texts of faults, graph_model
-//! for rounding, and on what gh_outside says of a folder. No call takes memory.
+//! for what rounding is, and on what gh_outside says of a folder. No call takes memory.
 #![tactic(auto)]
 
 mod chunk;

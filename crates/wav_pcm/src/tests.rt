@@ -1,3 +1,5 @@
+//! What no clause says: files in their bytes, and the first fault of files that are cut or altered.
+
 ghost use Rattle.std.specs.Prelude.{◌≤◌};
 
 use super::*;
@@ -40,21 +42,17 @@ fn folder_of(rt: &HostRuntime, bytes: &[u8], listed: &[u64]) -> Result<MemoryFol
     Ok(folder)
 }
 
-fn fault(fault: WavFault) -> Result<Head, HeadFault> {
-    Err(HeadFault::Wav(fault))
-}
-
-/// What is said of these bytes as a file for so many channels.
-fn head_of(
-    rt: &HostRuntime,
-    bytes: &[u8],
-    graph: u32,
-) -> Result<Result<Head, HeadFault>, AllocError>
+/// What is wrong with these bytes as a file for so many channels.
+fn fault_of(rt: &HostRuntime, bytes: &[u8], graph: u32) -> Result<String, AllocError>
     requires least { 1 ≤ graph }
     requires most { graph ≤ 32 }
 {
     let mut folder = folder_of(rt, bytes, &[])?;
-    Ok(read_head(&mut folder, "a.wav", graph))
+    match read_head(&mut folder, "a.wav", graph) {
+        Ok(_) => String::from_str(rt.alloc(), "nothing"),
+        Err(HeadFault::Wav(fault)) => format!(in rt.alloc(); "{fault}"),
+        Err(HeadFault::Failed) => String::from_str(rt.alloc(), "a failure"),
+    }
 }
 
 #[test]
@@ -91,65 +89,77 @@ fn an_extensible_file(rt: HostRuntime) -> Result<(), Fail> {
     Ok(())
 }
 
+/// So many bytes of the extensible file, and what is wrong with them.
+const CUTS: &str = "\
+0 > not a WAVE file
+11 > not a WAVE file
+12 > no format
+59 > no format
+60 > no data
+81 > no data
+82 > 6 bytes wanted, 0 there
+87 > 6 bytes wanted, 5 there
+88 > nothing";
+
 #[test]
 fn an_extensible_file_cut(rt: HostRuntime) -> Result<(), Fail> {
-    for (length, wrong) in [
-        (0, WavFault::NotRiff),
-        (11, WavFault::NotRiff),
-        (12, WavFault::NoFormat),
-        (59, WavFault::NoFormat),
-        (60, WavFault::NoData),
-        (81, WavFault::NoData),
-        (
-            82,
-            WavFault::Short {
-                wanted: 6,
-                there: 0,
-            },
-        ),
-        (
-            87,
-            WavFault::Short {
-                wanted: 6,
-                there: 5,
-            },
-        ),
-    ] {
-        let bytes = EXTENSIBLE_FILE.get(..length).unwrap_or(EXTENSIBLE_FILE);
-        assert_eq!(rt; head_of(&rt, bytes, 2)?, fault(wrong));
+    for case in CUTS.lines() {
+        let (length, fault) = case.split_once(" > ").unwrap_or(("", ""));
+        let bytes = EXTENSIBLE_FILE
+            .get(..length.parse().unwrap_or(0))
+            .unwrap_or(&[]);
+        assert_eq!(rt; fault_of(&rt, bytes, 2)?.as_str(), fault, "{case}");
     }
     Ok(())
 }
 
+/// Where bytes are put into the file, those bytes, and what is then the first fault.
+const CHANGES: &str = "\
+8 > AVI  > not a WAVE file
+12 > JUNK > no format
+16 > \x11\0\0\0 > format of size 17
+20 > \x03\0\x01\0 > tag 3 with 16 bits
+24 > \x41\x42\x0f\0 > rate 1000001
+36 > JUNK > no data
+40 > \x0c\0\0\0 > 12 bytes wanted, 6 there
+40 > \x05\0\0\0 > 5 bytes in frames of 2";
+
+/// The file with a text in it.
+fn with(at: usize, text: &str) -> [u8; 50] {
+    let mut file = *FILE;
+    for (byte, new) in file.iter_mut().skip(at).zip(text.bytes()) {
+        *byte = new;
+    }
+    file
+}
+
 #[test]
 fn the_first_fault(rt: HostRuntime) -> Result<(), Fail> {
-    for (at, bytes, wrong) in [
-        (8, b"AVI ", WavFault::NotRiff),
-        (12, b"JUNK", WavFault::NoFormat),
-        (16, b"\x11\0\0\0", WavFault::FormatSize { size: 17 }),
-        (20, b"\x03\0\x01\0", WavFault::Form { tag: 3, bits: 16 }),
-        (24, b"\x41\x42\x0f\0", WavFault::Rate { got: 1_000_001 }),
-        (36, b"JUNK", WavFault::NoData),
-        (
-            40,
-            b"\x0a\0\0\0",
-            WavFault::Short {
-                wanted: 10,
-                there: 6,
-            },
-        ),
-        (40, b"\x05\0\0\0", WavFault::Ragged { size: 5, frame: 2 }),
-    ] {
-        let mut file = *FILE;
-        for (byte, new) in file.iter_mut().skip(at).zip(bytes) {
-            *byte = *new;
-        }
-        assert_eq!(rt; head_of(&rt, &file, 1)?, fault(wrong));
+    for case in CHANGES.lines() {
+        let mut parts = case.split(" > ");
+        let at = parts.next().unwrap_or("").parse().unwrap_or(0);
+        let file = with(at, parts.next().unwrap_or(""));
+        let fault = parts.next().unwrap_or("");
+        assert_eq!(rt; fault_of(&rt, &file, 1)?.as_str(), fault, "{case}");
     }
     // Wrong channels hide that there are no data.
-    let channels = WavFault::Channels { file: 1, graph: 2 };
-    assert_eq!(rt; head_of(&rt, &FILE[..36], 2)?, fault(channels));
+    assert_eq!(rt; fault_of(&rt, &FILE[..36], 2)?.as_str(), "1 channels for 2");
+    let long = format!(in rt.alloc(); "{}", WavFault::TooLong { bytes: 7 })?;
+    assert_eq!(rt; long.as_str(), "7 bytes of output");
     Ok(())
+}
+
+/// What is said of these bytes as a file for so many channels.
+fn head_of(
+    rt: &HostRuntime,
+    bytes: &[u8],
+    graph: u32,
+) -> Result<Result<Head, HeadFault>, AllocError>
+    requires least { 1 ≤ graph }
+    requires most { graph ≤ 32 }
+{
+    let mut folder = folder_of(rt, bytes, &[])?;
+    Ok(read_head(&mut folder, "a.wav", graph))
 }
 
 #[test]
@@ -226,32 +236,4 @@ fn writes_each_size(rt: HostRuntime) {
     assert_eq!(rt; sizes.1, [0x02, 0x01, 0xfe, 0xfe]);
     assert_eq!(rt; sizes.2, [0x04, 0x02, 0x01, 0xfd, 0xfd, 0xfe]);
     assert_eq!(rt; sizes.3, [0x80, 0x03, 0x02, 0x01, 0x80, 0xfc, 0xfd, 0xfe]);
-}
-
-#[test]
-fn the_texts_of_faults(rt: HostRuntime) -> Result<(), Fail> {
-    for (fault, text) in [
-        (WavFault::NotRiff, "not a WAVE file"),
-        (WavFault::NoFormat, "no format"),
-        (WavFault::FormatSize { size: 17 }, "format of size 17"),
-        (WavFault::Form { tag: 3, bits: 32 }, "tag 3 with 32 bits"),
-        (WavFault::Rate { got: 0 }, "rate 0"),
-        (WavFault::Channels { file: 1, graph: 2 }, "1 channels for 2"),
-        (WavFault::NoData, "no data"),
-        (
-            WavFault::Short {
-                wanted: 10,
-                there: 6,
-            },
-            "10 bytes wanted, 6 there",
-        ),
-        (
-            WavFault::Ragged { size: 5, frame: 2 },
-            "5 bytes in frames of 2",
-        ),
-        (WavFault::TooLong { bytes: 7 }, "7 bytes of output"),
-    ] {
-        assert_eq!(rt; format!(in rt.alloc(); "{fault}")?.as_str(), text);
-    }
-    Ok(())
 }

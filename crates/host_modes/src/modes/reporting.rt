@@ -23,8 +23,8 @@ pub(crate) struct Work {
     pub(crate) end: End,
 }
 
-/// Puts the text of a work on the report, and ends with its plan and its engine. Of a request that writes no file this is
-/// all.
+/// Puts the text of a work on the report, and ends with its plan and its engine. Of a request that writes no file
+/// this is all.
 pub(crate) fn reported<R: Sink>(report: &mut R, work: Work, engine: Option<Engine>) -> Outcome
     ensures { (asked : Asked) (files : Option Holding) (reads writes : ℕ) → IsQuiet asked
         → IsWork asked files work.plan work.text.items work.end → IsWorkEngine asked work.plan engine

@@ -10,7 +10,7 @@ ghost use Rattle.streaming.specs.Blocks.{all_frames, first_frames, AreLengths, H
 ghost use Rattle.streaming.specs.declared.ends.StreamFault.TheVariants as Fault;
 ghost use Rattle.graph_model.specs.declared.graph.Graph.{Graph as GraphValue};
 ghost use Rattle.command_words.specs.Rendering.{render_said};
-ghost use Rattle.host_modes.specs.Files.{part_of, whole_of, IsRenderingOf};
+ghost use Rattle.host_modes.specs.Files.{part_of, whole_of, IsBroken, IsRenderingOf};
 ghost use Rattle.host_modes.specs.Forms.{written_frames, IsForm, IsFormOf};
 
 use crate::reading::recordings::Input;
@@ -114,8 +114,8 @@ pub(crate) fn write_file<T: Threads + Sync, F: Folder>(
     ensures unread { result ≡ Fails Fault.Read → (k : ℕ) × (k < all_frames rendering.now.from) × HeldBytes rendering.now.from.name.now (F.held folder.old)
         (λ file. Stands engine.new (first_frames rendering.now.from file k) × Holds rendering.now.to.name.now (part_of rendering.now engine.old.graph file k) (F.held folder.new)) }
     ensures read_failed { result ≡ Fails Fault.Read → Rose (F.read_faults folder.old) (F.read_faults folder.new) }
-    ensures broken { result ≡ Fails Fault.Write → HeldBytes rendering.now.from.name.now (F.held folder.old)
-        (λ file. IsPart rendering.now.to.name.now (whole_of rendering.now engine.old.graph file) (F.held folder.old) (F.held folder.new)) }
+    ensures broken { result ≡ Fails Fault.Write → (k : ℕ) × (k ≤ all_frames rendering.now.from) × HeldBytes rendering.now.from.name.now (F.held folder.old)
+        (λ file. Stands engine.new (first_frames rendering.now.from file k) × IsBroken rendering.now engine.old.graph file k (F.held folder.old) (F.held folder.new)) }
     ensures write_failed { result ≡ Fails Fault.Write → Rose (F.write_faults folder.old) (F.write_faults folder.new) }
     ensures reads { F.read_faults folder.old ≤ F.read_faults folder.new }
     ensures writes { F.write_faults folder.old ≤ F.write_faults folder.new }

@@ -47,7 +47,7 @@ returns-then-is_unmet_at_both-clause-meeting c =
     let counted = subst (λ z. c.count_sent.new.unmet ≡ set (set u from (number_of u from +ℤ z)) c.args.to (number_of u c.args.to -ℤ z)) fit c.count_sent.ensures in
     subst (λ x. IsMeeting net c.send-units.new.flow x) (sym counted)
     (IsMeeting-next net c.args.flow.now u from c.args.to c.send-units.result c.requires.meeting w c.send-units.new.flow c.send-units.auto.flow c.send-units.ensures.sent
-    c.send-units.ensures.bound)
+    (λ k. let b = c.send-units.ensures.bound k in omega (arith, b)))
 
 pub returns-then-is_unmet_at_both-clause-no_more : goal.returns-then-is_unmet_at_both-clause-no_more
 returns-then-is_unmet_at_both-clause-no_more c =

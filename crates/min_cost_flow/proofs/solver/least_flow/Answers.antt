@@ -1,20 +1,37 @@
-use Rattle.std.proofs.Common.{Option, ℕ, ◌<◌, pos, ◌≤ℤ◌, ◌<ℤ◌, length, sym, ap, ◌∙◌, subst, arith, replicate}
+use Rattle.std.proofs.Common.{Option, ℕ, ◌<◌, pos, ◌≤ℤ◌, ◌<ℤ◌, ◌++◌, length, take, drop, sym, ap, ◌∙◌, subst, arith, replicate}
 use Rattle.std.specs.List.{All}
 use Rattle.std.specs.Option.{MatchOption}
 use Rattle.std.proofs.lemmas.Int.{ints}
 use Rattle.shortest_paths.specs.Walks.{number_of}
 use Rattle.min_cost_flow.specs.Search.{IsReady}
 use Rattle.min_cost_flow.specs.Solve.{IsMeeting}
-use Rattle.min_cost_flow.proofs.SolveLemmas.{IsMeeting-first, none_above, none_below, MeetsNeeds-from_zeros, first_deficit}
+use Rattle.min_cost_flow.proofs.SolveLemmas.{IsMeeting-first, none_above, none_below, MeetsNeeds-from_zeros, first_deficit, written_back}
 use Rattle.min_cost_flow.proofs.solver.least_flow.Goals as goal
 use Rattle.min_cost_flow.proofs.solver.least_flow.Goals.{in_default, in_default-2}
 
+pub augment_admissible-requires-clause-meeting : goal.augment_admissible-requires-clause-meeting
+augment_admissible-requires-clause-meeting c =
+    subst (λ x. IsMeeting c.args.net.now c.deref_mut.result.now x) (sym (c.deref_mut-2.ensures.value ∙ c.in_ok-unmet.ensures.items ∙ c.as_slice.ensures))
+    (IsMeeting-first c.args.net.now c.deref_mut.result.now c.len.result c.requires.network c.len.ensures (c.deref_mut.ensures.value ∙ c.in_ok-flow.ensures))
+
+pub augment_admissible-requires-clause-ready : goal.augment_admissible-requires-clause-ready
+augment_admissible-requires-clause-ready c =
+    subst (λ x. IsReady c.args.net.now x c.args.walks.now) (sym (c.deref_mut.ensures.value ∙ c.in_ok-flow.ensures ∙ ap (λ n. replicate n 0) c.len.ensures)) c.requires.ready
+
 pub loop-from-init : goal.loop-from-init
 loop-from-init c =
+    let net = c.args.net.now in
+    let old_flow = c.in_ok-flow.flow in
+    let old_unmet = c.in_ok-unmet.unmet in
+    let flow = c.augment_admissible.new.flow in
+    let unmet = c.augment_admissible.new.unmet in
+    let flow_is = written_back old_flow.len flow old_flow.items (c.augment_admissible.auto.flow ∙ c.deref_mut.ensures.len) in
+    let unmet_is = written_back old_unmet.len unmet old_unmet.items (c.augment_admissible.auto.unmet ∙ c.deref_mut-2.ensures.len) in
     record {
-      meeting = subst (λ x. IsMeeting c.args.net.now c.in_ok-flow.flow.items x) (sym (c.in_ok-unmet.ensures.items ∙ c.as_slice.ensures))
-          (IsMeeting-first c.args.net.now c.in_ok-flow.flow.items c.len.result c.requires.network c.len.ensures c.in_ok-flow.ensures);
-      ready = subst (λ x. IsReady c.args.net.now x c.args.walks.now) (sym (c.in_ok-flow.ensures ∙ ap (λ n. replicate n 0) c.len.ensures)) c.requires.ready;
+      meeting =
+          subst (λ x. IsMeeting net x (take old_unmet.len (unmet ++ drop (length unmet) old_unmet.items))) (sym flow_is)
+          (subst (λ x. IsMeeting net flow x) (sym unmet_is) c.in_ok-augment_admissible.ensures.meeting);
+      ready = subst (λ x. IsReady net x c.args.walks.now) (sym flow_is) c.in_ok-augment_admissible.ensures.ready;
     }
 
 pub augment_all-requires-clause-linked : goal.augment_all-requires-clause-linked

@@ -1,5 +1,5 @@
 use Rattle.std.proofs.Common.{◌+ℤ◌, length, Some, IsSome, refl, sym, subst, ◌∙◌, inl, arith}
-use Rattle.std.specs.BinaryHeap.{heap_items}
+use Rattle.std.specs.BinaryHeap.{heap_items, heap_len}
 use Rattle.std.proofs.lemmas.Int.{ints}
 use Rattle.std.proofs.lemmas.List.Elements.{All-contains, All-cons}
 use Rattle.std.proofs.lemmas.List.Sorted.{All-permutation}
@@ -9,7 +9,8 @@ use Rattle.shortest_paths.specs.Usable.{usable}
 use Rattle.shortest_paths.specs.Nearest.{waiter, Waits, IsWaiter}
 use Rattle.shortest_paths.proofs.WalkLemmas.{some_same, edge_at}
 use Rattle.shortest_paths.proofs.EndLemmas.{found_within}
-use Rattle.shortest_paths.proofs.WaitLemmas.{improved, at_head, same_length, improved_room, waits_kept, improved_settled}
+use Rattle.shortest_paths.proofs.WaitLemmas.{improved, at_head, same_length, improved_room, waits_kept, improved_settled, loop_settled}
+use Rattle.shortest_paths.proofs.TurnLemmas.{IsRelaxed-none}
 use Rattle.shortest_paths.proofs.heap.relax_at.Goals as goal
 
 pub relax-requires-clause-bounded : goal.relax-requires-clause-bounded
@@ -77,3 +78,14 @@ returns-in_ok-wait-clause-here c e there =
     let s = c.requires.searched in
     let settled = improved_settled edges s.0 c.args.best.now c.relax.new.best numbers c.args.index d c.requires.cycles s.1 at inside imp in
     subst (λ (x : Edge). Waits c.relax.new.best numbers (heap_items c.wait.new.waiting) x) (some_same d e (sym at ∙ there)) (λ b f. inl (settled b f))
+
+pub returns-then-edge-clause-relaxed : goal.returns-then-edge-clause-relaxed
+returns-then-edge-clause-relaxed c = IsRelaxed-none (usable c.args.edges.now c.args.limits.now) c.args.numbers.now c.args.best.now (heap_items c.args.waiting.now) (heap_len c.args.waiting.now)
+
+pub returns-then-edge-clause-here : goal.returns-then-edge-clause-here
+returns-then-edge-clause-here c e there =
+    let edges = usable c.args.edges.now c.args.limits.now in
+    let d = c.usable_edge-edge.result in
+    let at = c.usable_edge-edge.ensures in
+    let settled = loop_settled edges c.args.best.now d c.requires.cycles (edge_at edges c.args.index d at) c.if-edge.true in
+    subst (λ (x : Edge). Waits c.args.best.now c.args.numbers.now (heap_items c.args.waiting.now) x) (some_same d e (sym at ∙ there)) (λ b f. inl (settled b f))

@@ -1,13 +1,15 @@
 use Rattle.std.proofs.Common.{◌∙◌, ap, sym}
-use Rattle.std.specs.Prelude.{is_some}
-use Rattle.topology.proofs.LinkFacts.{place_there, place_named}
+use Rattle.std.specs.Option.{is_some, option_copied}
+use Rattle.topology.proofs.IndexFacts.{copied_there, has_index, index_is}
 use Rattle.topology.proofs.ends.index_of.Goals as goal
 
 pub unwrap-requires : goal.unwrap-requires
-unwrap-requires c = ap is_some c.index_of.ensures ∙ place_there c.args.graph.now c.args.uid.0 c.requires
+unwrap-requires c = copied_there c.get.result (ap is_some c.get.ensures.value ∙ has_index c.args.graph.now c.args.indexes.now c.args.uid.0 c.requires.indexes c.requires.node)
 
 pub returns-clause-within : goal.returns-clause-within
-returns-clause-within c = (place_named c.args.graph.now c.args.uid.0 c.unwrap.result (sym c.index_of.ensures ∙ c.unwrap.ensures)).0
+returns-clause-within c =
+    (index_is c.args.graph.now c.args.indexes.now c.args.uid.0 c.unwrap.result.now c.requires.indexes (sym c.get.ensures.value ∙ ap option_copied c.unwrap.ensures)).0
 
 pub returns-clause-name : goal.returns-clause-name
-returns-clause-name c = (place_named c.args.graph.now c.args.uid.0 c.unwrap.result (sym c.index_of.ensures ∙ c.unwrap.ensures)).1
+returns-clause-name c =
+    (index_is c.args.graph.now c.args.indexes.now c.args.uid.0 c.unwrap.result.now c.requires.indexes (sym c.get.ensures.value ∙ ap option_copied c.unwrap.ensures)).1

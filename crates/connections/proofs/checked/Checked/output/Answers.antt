@@ -1,4 +1,4 @@
-use Rattle.std.proofs.Common.{◌≡◌, ◌∙◌, sym, ap, Some, arith}
+use Rattle.std.proofs.Common.{◌≡◌, ◌∙◌, sym, ap, Some}
 use Rattle.std.specs.List.{position}
 use Rattle.graph_model.specs.Graphs.{is_output}
 use Rattle.connections.proofs.EndFacts.{output_there, output_at}

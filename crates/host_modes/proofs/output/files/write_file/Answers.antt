@@ -4,7 +4,8 @@ use Rattle.host_modes.proofs.WriteLaws.{begun_part, broken_file, halted_file, pa
 use Rattle.host_modes.proofs.output.files.write_file.Goals as goal
 
 pub returns-in-Err-clause-broken : goal.returns-in-Err-clause-broken
-returns-in-Err-clause-broken g c = λ e. begun_part c.args.rendering.now c.args.engine.now.graph (g.F.Folder.held c.args.folder.now) (g.F.Folder.held c.begin.new.folder) c.begin.ensures.part
+returns-in-Err-clause-broken g c = λ e.
+    begun_part c.args.rendering.now c.args.engine.now (g.F.Folder.held c.args.folder.now) (g.F.Folder.held c.begin.new.folder) c.requires.new c.begin.ensures.part
 
 pub returns-in-Err-stream-clause-others : goal.returns-in-Err-stream-clause-others
 returns-in-Err-stream-clause-others g c = keeps c.args.rendering.now.to.name.now _ _ _ c.begin.ensures.others c.stream.ensures.others
@@ -20,9 +21,12 @@ returns-in-Err-stream-clause-unread g c = λ e.
 
 pub returns-in-Err-stream-clause-broken : goal.returns-in-Err-stream-clause-broken
 returns-in-Err-stream-clause-broken g c = λ e.
-    let w = c.stream.ensures.broken (c.in-Err-stream.is ∙ e) in
-    broken_file c.args.rendering.now c.args.engine.now (g.F.Folder.held c.args.folder.now) (g.F.Folder.held c.begin.new.folder) c.requires.may c.begin.ensures.others c.in-Ok.ensures.ok
-    (g.F.Folder.held c.stream.new.folder) c.stream.ensures.others w.0 w.1 w.2
+    let w = c.stream.ensures.broken (c.in-Err-stream.is ∙ e) in (
+      w.0,
+      w.1,
+      broken_file c.args.rendering.now c.args.engine.now (g.F.Folder.held c.args.folder.now) (g.F.Folder.held c.begin.new.folder) c.requires.may c.begin.ensures.others c.in-Ok.ensures.ok
+          (g.F.Folder.held c.stream.new.folder) c.stream.ensures.others w.0 c.stream.new.engine w.2,
+    )
 
 pub returns-in-Ok-append_pad-clause-others : goal.returns-in-Ok-append_pad-clause-others
 returns-in-Ok-append_pad-clause-others g c =

@@ -1,0 +1,16 @@
+use Rattle.std.proofs.Common.{◌∙◌}
+use Rattle.plan_model.specs.SharedFlows.{at_node}
+use Rattle.alignment.specs.SharedNetworks.{point_entry}
+use Rattle.alignment.proofs.StepFacts.{entries-some, entries-none}
+use Rattle.alignment.proofs.shared.carried.Goals as goal
+use Rattle.alignment.proofs.shared.carried.Goals.{then-flow-k-gt0+in_ok-push, else-flow-k-gt0}
+
+pub loop-k-preserved : goal.loop-k-preserved
+loop-k-preserved c =
+    elim c.if-flow-k-gt0.branch [
+      | then-flow-k-gt0+in_ok-push w ↦
+          entries-some point_entry (at_node 0) c.args.names.now c.args.arcs.now c.args.flow.now c.loop-k.k c.requires.each c.loop-k-test.true c.loop-k.carried c.loop-k.invariant c.if-flow-k-gt0.carried
+          w.if-flow-k-gt0.true (w.carried-is ∙ w.in_ok-push.ensures.ok)
+      | else-flow-k-gt0 w ↦
+          w.carried-is ∙ entries-none point_entry (at_node 0) c.args.names.now c.args.arcs.now c.args.flow.now c.loop-k.k c.requires.each c.loop-k-test.true c.loop-k.carried c.loop-k.invariant w.if-flow-k-gt0.false
+    ]
