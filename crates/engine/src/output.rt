@@ -3,22 +3,22 @@
 ghost use Rattle.std.specs.Prelude.{◌≡◌, ℕ, ◌+◌, ◌-◌, ◌*◌, ◌<◌, ◌≤◌, ◌⊎◌, pos, [], length, reverse, slice_index_or};
 ghost use Rattle.players.specs.declared.leaving.Leaving.{Leaving as Exits};
 ghost use Rattle.players.specs.declared.playing.Server.TheVariants.{Exit};
-ghost use Rattle.engine.specs.Outputs.{CanLeave, HasWritten};
+ghost use Rattle.engine.specs.Outputs.{CanLeave, HasWritten, HasWrittenRow};
 ghost use Rattle.engine.specs.Views.{began};
 
+use delay_lines::Line;
 use players::{Leaving, Player, Server};
 use pool_waves::Job;
 
-/// Writes a frame: of each line the sample that many back, 1 being the newest.
-fn write_frame(leaving: &Leaving, back: usize, base: usize, channels: usize, output: &mut [i64])
-    requires some { 1 ≤ back }
-    requires lines { CanLeave back channels leaving.now }
-    requires room { base + channels ≤ length output.old }
-    ensures samples { (c : ℕ) → c < channels → slice_index_or output.new (base + c) (pos 0) ≡ slice_index_or (reverse (slice_index_or leaving.now.lines.items c [])) (back - 1) (pos 0) }
-    ensures rest { (j : ℕ) → (j < base) ⊎ (base + channels ≤ j) → slice_index_or output.new j (pos 0) ≡ slice_index_or output.old j (pos 0) }
+/// Writes the newest samples of a line, the oldest of them first, to one channel of the frames.
+fn write_row(line: &Line, frames: usize, channel: usize, channels: usize, output: &mut [i64])
+    requires channel { channel < channels }
+    requires held { frames ≤ length line.now }
+    requires room { frames * channels ≤ length output.old }
+    ensures { HasWrittenRow line.now frames channel channels output.old output.new }
 {
-    for c in 0..channels {
-        output[base + c] = leaving.lines[c].before(back);
+    for k in 0..frames {
+        output[k * channels + channel] = line.before(frames - k);
     }
 }
 
@@ -28,8 +28,8 @@ fn write_frames(leaving: &Leaving, frames: usize, channels: usize, output: &mut 
     requires room { frames * channels ≤ length output.old }
     ensures { HasWritten frames channels leaving.now output.new }
 {
-    for k in 0..frames {
-        write_frame(leaving, frames - k, k * channels, channels, output);
+    for channel in 0..channels {
+        write_row(&leaving.lines[channel], frames, channel, channels, output);
     }
 }
 
