@@ -17,7 +17,7 @@ use Rattle.graph_model.proofs.PathLaws.{same_name}
 use Rattle.graph_model.proofs.RankLaws.{sound_is_ranked}
 use Rattle.graph_model.proofs.ReachLaws.{filter_has}
 use Rattle.topology.proofs.LinkFacts.{connection_at}
-use Rattle.shortest_paths.specs.Walks.{number_of, from_zero, IsWithin}
+use Rattle.shortest_paths.specs.Walks.{number_of, IsWithin}
 use Rattle.min_cost_flow.specs.Flow.{MeetsNeeds}
 use Rattle.min_cost_flow.specs.Laws.{weighted}
 use Rattle.min_cost_flow.specs.declared.network.Arc.{Arc}

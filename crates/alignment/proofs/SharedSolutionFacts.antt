@@ -7,9 +7,8 @@ use Rattle.std.proofs.lemmas.Int.{ints}
 use Rattle.std.proofs.lemmas.List.Elements.{All-contains, All-weaker, Contains-get_or}
 use Rattle.graph_model.specs.Graphs.{latency_at}
 use Rattle.graph_model.specs.Paths.{IsLive, live_nodes, live_connections, latency_of_graph}
-use Rattle.graph_model.specs.Sound.{IsSound}
 use Rattle.graph_model.specs.declared.graph.Graph.{Graph}
-use Rattle.min_cost_flow.specs.Flow.{IsTight, MeetsNeeds}
+use Rattle.min_cost_flow.specs.Flow.{MeetsNeeds}
 use Rattle.min_cost_flow.specs.Laws.{weighted}
 use Rattle.min_cost_flow.specs.declared.network.Arc.{Arc}
 use Rattle.min_cost_flow.specs.declared.network.Network.{Network}
@@ -28,7 +27,6 @@ use Rattle.plan_model.proofs.Saved.{Contains-from_map, Contains-map}
 use Rattle.plan_model.proofs.SharedBestLaws.{shared_least_of_optima}
 use Rattle.plan_model.proofs.SharedLaws.{told_point, itself_point, reader}
 use Rattle.shortest_paths.specs.Walks.{number_of, from_zero}
-use Rattle.alignment.specs.Networks.{ArePoints}
 use Rattle.alignment.specs.SharedNetworks.{shared_points, point_entry, IsSharedNetworkOf}
 use Rattle.alignment.specs.Numbered.{name_by, number_by, entries_by, AreNames}
 use Rattle.alignment.proofs.NumberedLaws as numbered

@@ -66,9 +66,11 @@ third vs bs cs ds es x f has =
       ])
     ]
 
+-- what has more members maps to what has more
 pub mapped : {X Y : Type 0} (f : X → Y) (xs ys : List X) → ((x : X) → Contains xs x → Contains ys x) → (y : Y) → Contains (map f xs) y → Contains (map f ys) y
 mapped f xs ys h y has = let x = Contains-from_map f xs y has in subst (Contains (map f ys)) x.2 (Contains-map f ys x.0 (h x.0 x.1))
 
+-- functions that are equal at each item
 pub map_same_at : {X Y : Type 0} (f h : X → Y) (xs : List X) → AllByRecursion (λ x. f x ≡ h x) xs → map f xs ≡ map h xs
 map_same_at f h [] e = refl
 map_same_at f h (x ∷ xs) e = λ i. e.0 i ∷ map_same_at f h xs e.1 i
