@@ -20,15 +20,15 @@ use Rattle.graph_model.proofs.PathLaws.{at_tail, first_or_later, same_name}
 use Rattle.graph_model.proofs.RangeLaws.{in_range}
 use Rattle.graph_model.proofs.RankLaws.{sound_is_ranked}
 use Rattle.graph_model.proofs.NameFacts.{same_uid}
-use Rattle.plan_model.specs.Flows.{is_between, along, from_root, network, arc_between}
-use Rattle.plan_model.specs.Networks.{Difference}
+use Rattle.plan_model.specs.Flows.{along, from_root, network, arc_between, terms}
+use Rattle.plan_model.specs.Networks.{Difference, Terms, is_arc_between, arc_from_to}
 use Rattle.plan_model.proofs.DualityLaws.{named, live_names}
 use Rattle.plan_model.proofs.NetworkLaws.{all_append, all_map, all_weaker}
 use Rattle.graph_model.proofs.NodeFacts.{output_is_node}
 
 -- ---- lists
 -- the only entry that passes is the one that is found
-pub find_only : {X : Type 0} (p : X → Bool) (xs : List X) (x : X) → Contains xs x → p x ≡ true → ((y : X) → Contains xs y → p y ≡ true → y ≡ x) → find p xs ≡ Some x
+find_only : {X : Type 0} (p : X → Bool) (xs : List X) (x : X) → Contains xs x → p x ≡ true → ((y : X) → Contains xs y → p y ≡ true → y ≡ x) → find p xs ≡ Some x
 find_only p [] x has is only = let l = has.1 in absurd (omega arith)
 find_only p (y ∷ xs) x has is only = go (p y) refl (first_or_later y x xs has) (λ there. find_only p xs x there is (λ z h. only z (at_tail y z xs h)))
   where
@@ -36,6 +36,19 @@ find_only p (y ∷ xs) x has is only = go (p y) refl (first_or_later y x xs has)
     go true e c rest = ap Some (only y (0, omega arith, refl) e)
     go false e (inl same) rest = let f : p y ≡ p x = ap p same in absurd (cc)
     go false e (inr there) rest = rest there
+
+-- where two ends have one least difference, each difference is the one that is found between its ends
+pub found_between : {P E L : Type 0} (t : Terms P E L) → ((u v : P) → t.same u v ≡ true → u ≡ v) → ((v : P) → t.same v v ≡ true) → (between : P → P → ℤ) (ds : List (Difference P))
+    → AllByRecursion (λ d. d.least ≡ between d.tail d.head) ds → (d : Difference P) → Contains ds d → arc_from_to t ds d.tail d.head ≡ Some d
+found_between {P} t told itself between ds as_between d has =
+    let least : (e : Difference P) → Contains ds e → e.least ≡ between e.tail e.head
+    = λ e there. All-contains (λ x. x.least ≡ between x.tail x.head) ds e (All-from_recursion (λ x. x.least ≡ between x.tail x.head) ds as_between) there in
+    find_only (is_arc_between t d.tail d.head) ds d has (and_from _ _ (itself d.tail) (itself d.head))
+    (λ e there is.
+    let u : e.tail ≡ d.tail = told e.tail d.tail (first_so _ _ is) in
+    let v : e.head ≡ d.head = told e.head d.head (second_so _ _ is) in
+    let same : e.least ≡ d.least = least e there ∙ (λ i. between (u i) (v i)) ∙ sym (least d has) in
+    λ i. record { tail = u i; head = v i; least = same i })
 
 -- where one entry passes, the one that is found stands in the list and passes
 pub find_one : {X : Type 0} (p : X → Bool) (xs : List X) → count_by p xs ≡ 1 → (x : X) × Contains xs x × (p x ≡ true) × (find p xs ≡ Some x)
@@ -132,17 +145,6 @@ module _ (g : Graph) (sound : IsSound g) where
       to_root_as true = (from_input (input_name g) ends_differ, (last, tt))
       to_root_as false = (last, tt)
 
-  -- two of them with the same ends are one
-  same_ends : (d e : Difference ℕ) → IsAsBetween g d → IsAsBetween g e → is_between e.tail e.head d ≡ true → d ≡ e
-  same_ends d e at_d at_e is =
-      let t : d.tail ≡ e.tail = eqb-true _ _ (first_so _ _ is) in
-      let h : d.head ≡ e.head = eqb-true _ _ (second_so _ _ is) in
-      let least : d.least ≡ e.least = at_d ∙ ap (λ u. least_between g u d.head) t ∙ ap (least_between g e.tail) h ∙ sym at_e in
-      λ i. record { tail = t i; head = h i; least = least i }
-
 -- each difference of the network is the one that is found between its ends
 pub arc_found : (g : Graph) → IsSound g → (d : Difference ℕ) → Contains (network g (latency_of_graph g)) d → arc_between g (latency_of_graph g) d.tail d.head ≡ Some d
-arc_found g sound d has =
-    let all = All-from_recursion (IsAsBetween g) (network g (latency_of_graph g)) (as_between g sound) in
-    find_only (is_between d.tail d.head) (network g (latency_of_graph g)) d has (and_from _ _ (same_name d.tail) (same_name d.head))
-    (λ e there is. same_ends g sound e d (All-contains (IsAsBetween g) _ e all there) (All-contains (IsAsBetween g) _ d all has) is)
+arc_found g sound = found_between (terms g) eqb-true same_name (least_between g) (network g (latency_of_graph g)) (as_between g sound)

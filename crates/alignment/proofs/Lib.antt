@@ -5,11 +5,9 @@ pub mod ValueFacts
 pub mod PointFacts
 pub mod LinkFacts
 pub mod NetworkArcs
-pub mod FlowFacts
-pub mod NeedFacts
 pub mod NetworkFacts
+pub mod Solutions
 pub mod AlignFacts
-pub mod PlaceFacts
 pub mod NumberedLaws
 pub mod SortedArcLaws
 pub mod SolvableLaws

@@ -43,7 +43,7 @@ name_at points k v lt at = (k, lt, get_or_default points k v 0 lt ∙ at)
 module _ (g : Graph) (points : List ℕ) (sound : IsSound g) (are : ArePoints g points) where
   -- the number of the name at a place
   pub number_is : (k v : ℕ) → k < length points → slice_index points k ≡ v → k ≡ number_in points v
-  number_is k v lt at = sym (number_at points are.rising k lt) ∙ ap (number_in points) at
+  number_is k v lt at = sym (number_at g points are k lt) ∙ ap (number_in points) at
 
   -- a live node is a point
   pub live_there : (v : ℕ) → is_live g v ≡ true → Contains points v

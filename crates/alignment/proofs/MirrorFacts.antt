@@ -28,7 +28,8 @@ use Rattle.alignment.specs.declared.values.Value.{Value}
 use Rattle.alignment.proofs.LinkFacts.{number_is}
 use Rattle.alignment.proofs.NeedLaws.{needs_by}
 use Rattle.alignment.proofs.SharedArcFacts.{live_number, mirror_is}
-use Rattle.alignment.proofs.SharedNetworkFacts.{map_same_at, needs_linked_at}
+use Rattle.alignment.proofs.SharedNetworkFacts.{needs_linked_at}
+use Rattle.alignment.proofs.SortedArcLaws.{map_same_at}
 use Rattle.alignment.proofs.SharedPointFacts.{are_names, node_named, mirror_named}
 use Rattle.alignment.proofs.ValueListFacts.{placed, listed_value}
 

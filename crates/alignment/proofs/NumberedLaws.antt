@@ -1,5 +1,5 @@
 -- What solves a network by the numbers of its points solves it by their names.
-use Rattle.std.proofs.Common.{◌≡◌, ℕ, zero, suc, ◌+◌, ◌<◌, ◌≤◌, ℤ, pos, ◌+ℤ◌, ◌-ℤ◌, ◌*ℤ◌, ◌≤ℤ◌, List, [], ◌∷◌, length, map, get_or, slice_get, slice_index, refl, sym, ap, subst, ◌∙◌, arith, cond, ◌==◌, Bool, true, false, Some, inl, inr}
+use Rattle.std.proofs.Common.{◌≡◌, ℕ, zero, suc, ◌+◌, ◌<◌, ◌≤◌, ℤ, pos, negsuc, ◌+ℤ◌, ◌-ℤ◌, ◌*ℤ◌, ◌≤ℤ◌, List, [], ◌∷◌, length, map, get_or, slice_get, slice_index, refl, sym, ap, subst, ◌∙◌, arith, cond, ◌==◌, Bool, true, false, Some, inl, inr}
 use Rattle.std.specs.Prelude.{sum_by, nat_lt, not, IsSome, AllPairs}
 use Rattle.std.proofs.lemmas.List.Kept.{AllPairs-cons}
 use Rattle.std.specs.List.{All, AllByRecursion, Contains}
@@ -19,12 +19,16 @@ use Rattle.plan_model.specs.Networks.{Difference, Terms, least_or_zero, arc_from
 use Rattle.plan_model.proofs.PlaceLaws.{has_item}
 use Rattle.plan_model.proofs.Saved.{Contains-from_map}
 use Rattle.shortest_paths.specs.Walks.{number_of, from_zero}
-use Rattle.alignment.proofs.PlaceLists.{from_zero_is}
 use Rattle.alignment.specs.Numbered.{number_by, name_by, named_by, entries_by, AreNames, AreArcsBy}
 
 no_units : (b : Bool) → cond b zero zero ≡ zero
 no_units true = refl
 no_units false = refl
+
+-- a number from 0 on is itself
+pub from_zero_is : (z : ℤ) → pos 0 ≤ℤ z → pos (from_zero z) ≡ z
+from_zero_is (pos n) l = refl
+from_zero_is (negsuc n) l = absurd (omega (arith, ints))
 
 -- ---- names and their numbers
 -- a name of the list stands at its number
@@ -62,6 +66,14 @@ module _ {P E L : Type 0} (t : Terms P E L) (told : (u v : P) → t.same u v ≡
       go : (b : Bool) → t.same (name_at i) (name_at j) ≡ b → b ≡ (i == j)
       go true e = let one : i ≡ j = sym (number_at i l) ∙ ap (λ v. number_by t names v) (told (name_at i) (name_at j) e) ∙ number_at j m in sym (eq-eqb i j one)
       go false e = sym (ne_eqb i j (λ one. let f : t.same (name_at i) (name_at j) ≡ true = ap (λ k. t.same (name_at k) (name_at j)) one ∙ itself (name_at j) in absurd (cc)))
+
+  -- potentials from 0 on, by name
+  pub from_zero_at : (potential : List ℤ) → ((k : ℕ) → k < length names → pos 0 ≤ℤ number_of potential k) → (k : ℕ) → k < length names
+      → pos (from_zero (number_of potential (number_by t names (name_at k)))) ≡ number_of potential k
+  from_zero_at potential from k lt =
+      let e = ap (number_of potential) (number_at k lt) in
+      let l = from k lt in
+      from_zero_is (number_of potential (number_by t names (name_at k))) (omega (arith, ints)) ∙ e
 
 module _ {P E L : Type 0} (t : Terms P E L) (told : (u v : P) → t.same u v ≡ true → u ≡ v) (itself : (v : P) → t.same v v ≡ true) (make : P → P → ℕ → E)
     (made : (u v : P) (n : ℕ) → (t.tail (make u v n) ≡ u) × (t.head (make u v n) ≡ v) × (t.units (make u v n) ≡ n)) (root : P) (names : List P) where
@@ -204,19 +216,9 @@ module _ {P E L : Type 0} (t : Terms P E L) (told : (u v : P) → t.same u v ≡
       pub root_at : (potential : List ℤ) → number_of potential 0 ≡ pos 0 → number_of potential (number root) ≡ pos 0
       root_at potential zero_at = ap (λ v. number_of potential (number v)) (sym are.first) ∙ ap (number_of potential) (number_at t told itself root names are 0 are.some) ∙ zero_at
 
-      -- ---- the potentials
+      -- ---- the potentials, by name
       module _ (potential : List ℤ) (tight : IsTight arcs flow (number_of potential)) (zero_at : number_of potential 0 ≡ pos 0)
-          (from : (k : ℕ) → k < length names → pos 0 ≤ℤ number_of potential k) where
-        abbrev value : P → ℤ
-        value v = number_of potential (number v)
-
-        -- the potential of a point
-        abbrev at : P → ℕ
-        at v = from_zero (value v)
-
-        pub at_name : (k : ℕ) → k < length names → pos (at (name k)) ≡ number_of potential k
-        at_name k lt = let e = ap (number_of potential) (number_at t told itself root names are k lt) in let l = from k lt in from_zero_is (value (name k)) (omega (arith, ints)) ∙ e
-
+          (at : P → ℕ) (at_name : (k : ℕ) → k < length names → pos (at (name k)) ≡ number_of potential k) where
         pub at_root : at root ≡ 0
         at_root = let e = at_name 0 are.some in let f = ap at are.first in omega (arith, ints)
 
@@ -283,6 +285,6 @@ module _ {P E L : Type 0} (t : Terms P E L) (told : (u v : P) → t.same u v ≡
               let begins : number_of numbers 0 ≡ pos 0 = numbers_at 0 are.some ∙ ap (λ w. pos (s w)) are.first ∙ ap pos s_root in
               let below = least numbers begins numbers_tight (number v) p.0 in
               let e = numbers_at (number v) p.0 ∙ ap (λ w. pos (s w)) p.1 in
-              let l = from (number v) p.0 in
-              let f = from_zero_is (value v) l in
+              let f = at_name (number v) p.0 in
+              let h = ap at p.1 in
               omega (arith, ints)

@@ -1,5 +1,5 @@
 -- What the solver gives for the network of shared lines is the best alignment, with its lines and its flow.
-use Rattle.std.proofs.Common.{◌≡◌, ℕ, zero, suc, ◌+◌, ◌-◌, ◌<◌, ◌≤◌, ◌^◌, ℤ, pos, ◌+ℤ◌, ◌-ℤ◌, ◌≤ℤ◌, List, length, map, drop, take, get_or, slice_index, refl, sym, ap, subst, ◌∙◌, arith, ◌⊎◌, inl, inr}
+use Rattle.std.proofs.Common.{◌≡◌, ℕ, ◌+◌, ◌-◌, ◌<◌, ◌≤◌, ◌^◌, ℤ, pos, ◌+ℤ◌, ◌-ℤ◌, ◌≤ℤ◌, List, length, map, drop, take, get_or, sym, ap, subst, ◌∙◌, arith, ◌⊎◌, inl, inr}
 use Rattle.std.specs.Prelude.{sum_by}
 use Rattle.std.specs.List.{All, Contains}
 use Rattle.std.proofs.lemmas.Int.{ints}
@@ -36,23 +36,25 @@ use Rattle.alignment.specs.Mirrors.{mirror_link, mirror_number, line_of_link}
 use Rattle.alignment.specs.Networks.{number_in}
 use Rattle.alignment.specs.Numbered.{name_by, number_by}
 use Rattle.alignment.specs.Places.{ArePositions, IsTimely, places_of, delay_of}
-use Rattle.alignment.specs.SharedNetworks.{shared_points}
+use Rattle.alignment.specs.SharedNetworks.{shared_points, IsSharedNetworkOf}
 use Rattle.alignment.specs.Values.{port, place_of_value}
 use Rattle.alignment.specs.declared.links.Link.{Link}
 use Rattle.alignment.specs.declared.values.Value.{Value}
 use Rattle.alignment.proofs.MirrorFacts.{value_live, value_named}
 use Rattle.alignment.proofs.NumberedLaws as numbered
-use Rattle.alignment.proofs.PlaceFacts.{live_nodes_are}
-use Rattle.alignment.proofs.PlaceLists.{stands_at, zero_first, later_position, from_zero_is}
-use Rattle.alignment.proofs.SharedArcFacts.{place_is, live_number, mirror_is}
-use Rattle.alignment.proofs.SharedNetworkFacts.{map_same_at, shared_network_is_one}
+use Rattle.alignment.proofs.NumberedLaws.{from_zero_is}
+use Rattle.alignment.proofs.PlaceLists.{stands_at}
+use Rattle.alignment.proofs.PointFacts.{live_nodes_are, live_position}
+use Rattle.alignment.proofs.SharedArcFacts.{live_number, mirror_is}
+use Rattle.alignment.proofs.SharedNetworkFacts.{shared_network_is_one}
+use Rattle.alignment.proofs.SortedArcLaws.{map_same_at}
 use Rattle.alignment.proofs.SharedPointFacts.{are_names, mirror_named}
-use Rattle.alignment.proofs.SharedSolutionFacts.{IsSharedSolution, carried, value, stands, rises, root_value, node_from, mirror_from, beyond_along, is_flow, listed, bound_is, best, total_is, mirrors_are}
+use Rattle.alignment.proofs.SharedSolutionFacts.{carried, value, stands, rises, root_value, node_from, mirror_from, beyond_along, is_flow, listed, bound_is, best, total_is, mirrors_are}
+use Rattle.alignment.proofs.Solutions.{IsSolutionOf}
 use Rattle.alignment.proofs.StepFacts.{in_frames}
-use Rattle.alignment.proofs.ValueFacts.{live_is_named}
 use Rattle.alignment.proofs.ValueListFacts.{few_values, at_place}
 
-module _ (g : Graph) (points : List ℕ) (net : Network) (solved : Solved) (s : IsSharedSolution g points net solved) where
+module _ (g : Graph) (points : List ℕ) (net : Network) (solved : Solved) (s : IsSolutionOf IsSharedNetworkOf g points net solved) where
   abbrev names : List Point
   names = shared_points g points
 
@@ -72,17 +74,9 @@ module _ (g : Graph) (points : List ℕ) (net : Network) (solved : Solved) (s : 
   -- the position of a live node is its potential
   position_is : (v : ℕ) → IsLive g v → position_in at v ≡ stands g points net solved s (at_node v)
   position_is v live =
-      let p = stands_at points v (s.are.all v (inr live)) in
-      let k = number_in points v in
-      let first = zero_first points s.are.rising (s.are.all 0 (inl refl)) in
-      let beyond : 0 < k = positive k (λ none. let e = ap (slice_index points) none in let z = first.1 in let w = p.1 in let n = live_is_named g s.sound v live in omega arith) in
-      ap (position_in at) (sym p.1) ∙ later_position points nodes_at s.are.rising as_many k beyond p.0
-      ∙ ap from_zero (get_or-take (length points) solved.potential k (pos 0) p.0)
-      ∙ ap (λ j. from_zero (number_of solved.potential j)) (sym (place_is g points s.sound s.are k p.0)) ∙ ap (λ u. stands g points net solved s (at_node u)) p.1
-    where
-      positive : (n : ℕ) → (n ≡ 0 → ⊥) → 0 < n
-      positive zero h = absurd (h refl)
-      positive (suc n) h = omega arith
+      live_position g points s.sound s.are nodes_at as_many v live
+      ∙ ap from_zero (get_or-take (length points) solved.potential (number_in points v) (pos 0) (stands_at g points v (s.are.all v (inr live))).0)
+      ∙ ap (λ j. from_zero (number_of solved.potential j)) (sym (live_number g points s.sound s.are v live))
 
   pub best_of_at : IsBestShared g (position_in at)
   best_of_at = best_same (shared_total g) g s.sound (λ v. stands g points net solved s (at_node v)) (position_in at) position_is

@@ -1,17 +1,15 @@
 -- The arcs that are made for the network of shared lines are its differences by the numbers of its points.
-use Rattle.std.proofs.Common.{◌≡◌, ℕ, ◌+◌, ◌-◌, ◌<◌, ◌≤◌, ◌^◌, ℤ, pos, neg_ℤ, List, [], ◌∷◌, ◌++◌, length, map, drop, get_or, slice_index, refl, sym, ap, subst, ◌∙◌, arith, cond, Bool, true, false, inl, inr, IsPermutation}
+use Rattle.std.proofs.Common.{◌≡◌, ℕ, ◌+◌, ◌-◌, ◌<◌, ◌≤◌, ◌^◌, pos, neg_ℤ, List, [], ◌∷◌, ◌++◌, length, map, drop, get_or, slice_index, refl, sym, ap, subst, ◌∙◌, arith, cond, Bool, true, false, inl, inr, IsPermutation}
 use Rattle.std.specs.List.{AllByRecursion, Contains, dedup, range_with_len}
 use Rattle.std.specs.List.Sorted.{IsSorted}
 use Rattle.std.specs.Ordering.{eq_by_cmp}
 use Rattle.std.specs.Cmp.{IsTotalOrder}
-use Rattle.std.proofs.lemmas.List.{ext_get_or, get_or-map, get_or_default, get_or_append_left, get_or-append-add, length-append, length-drop, length-map, map-append}
+use Rattle.std.proofs.lemmas.List.{ext_get_or, get_or-map, get_or_append_left, get_or-append-add, length-append, length-map, map-append}
 use Rattle.std.proofs.lemmas.Simd.{map-map}
 use Rattle.std.proofs.lemmas.List.Elements.{All-contains, All-from_recursion, Contains-get_or}
-use Rattle.std.proofs.lemmas.List.Kept.{AllPairs-from_increasing}
 use Rattle.std.proofs.lemmas.List.FromFn.{get_or-map-range_with_len, length-map-range_with_len}
 use Rattle.std.proofs.lemmas.List.Sorted.{length_permutation}
-use Rattle.std.proofs.lemmas.Grind.{get_or_after_one}
-use Rattle.graph_model.specs.Graphs.{input_name, output_name, latency_at}
+use Rattle.graph_model.specs.Graphs.{input_name, output_name}
 use Rattle.graph_model.specs.Paths.{IsLive, is_live, live_nodes, live_connections, latency_of_graph}
 use Rattle.graph_model.specs.Sound.{IsSound}
 use Rattle.graph_model.specs.declared.graph.Graph.{Graph}
@@ -19,11 +17,12 @@ use Rattle.graph_model.proofs.LiveLaws.{ends_live, live_by, output_live}
 use Rattle.graph_model.proofs.ReachLaws.{filter_from}
 use Rattle.topology.proofs.LinkFacts.{connection_at}
 use Rattle.min_cost_flow.specs.declared.network.Arc.{Arc}
+use Rattle.plan_model.specs.Flows.{along, from_root, to_root, terms}
 use Rattle.plan_model.specs.Networks.{Difference}
 use Rattle.plan_model.specs.Lives.{Port, source, values}
 use Rattle.plan_model.specs.SharedFlows.{at_node, mirror, shared_terms, along_nodes, to_mirror, root_to, ends_to_root, mirror_to_root, shared_network}
 use Rattle.plan_model.specs.declared.shared.Point.{Point}
-use Rattle.plan_model.proofs.NetworkLaws.{all_append, all_map}
+use Rattle.plan_model.proofs.NetworkLaws.{all_append, all_map, all_weaker}
 use Rattle.plan_model.proofs.SharedLaws.{told_point, itself_point, every, value_of}
 use Rattle.alignment.specs.Links.{links_of, arc_along, arc_from_root, arcs_to_root}
 use Rattle.alignment.specs.Mirrors.{mirror_number, arc_to_mirror, arc_from_mirror}
@@ -32,12 +31,12 @@ use Rattle.alignment.specs.Numbered.{name_by, number_by, numbered_by, AreArcsBy}
 use Rattle.alignment.specs.SharedNetworks.{shared_points, AreSharedArcs}
 use Rattle.alignment.specs.Values.{place_of_value}
 use Rattle.alignment.proofs.LinkFacts.{all_links_map, live_link}
+use Rattle.alignment.proofs.NetworkArcs as nodes
 use Rattle.alignment.proofs.NumberedLaws as numbered
-use Rattle.alignment.proofs.PlaceLists.{stands_at, zero_first, links_few, later_has}
+use Rattle.alignment.proofs.PlaceLists.{stands_at, links_few}
 use Rattle.alignment.proofs.SharedPointFacts.{are_names, node_named, mirror_named, shared_arc_found}
-use Rattle.alignment.proofs.ValueFacts.{live_is_named, live_listed}
 use Rattle.alignment.proofs.ValueListFacts.{few_values, place_at, at_place}
-use Rattle.alignment.proofs.SortedArcLaws.{order, HasEnds, third, mapped, numbered_are, sorted_are, sorted_rise}
+use Rattle.alignment.proofs.SortedArcLaws.{order, HasEnds, third, mapped, map_same_at, numbered_are, sorted_are, sorted_rise}
 
 module _ (g : Graph) (points : List ℕ) (sound : IsSound g) (are : ArePoints g points) where
   abbrev names : List Point
@@ -68,13 +67,13 @@ module _ (g : Graph) (points : List ℕ) (sound : IsSound g) (are : ArePoints g 
       ap number (sym (node_at k lt)) ∙ numbered.number_at (shared_terms g) told_point itself_point (at_node 0) names (are_names g points are) k more
 
   pub node_number : (v : ℕ) → Contains points v → number (at_node v) ≡ number_in points v
-  node_number v has = let p = stands_at points v has in ap (λ u. number (at_node u)) (sym p.1) ∙ place_is (number_in points v) p.0
+  node_number v has = let p = stands_at g points v has in ap (λ u. number (at_node u)) (sym p.1) ∙ place_is (number_in points v) p.0
 
   pub live_number : (v : ℕ) → IsLive g v → number (at_node v) ≡ number_in points v
   live_number v live = node_number v (are.all v (inr live))
 
   pub root_number : number (at_node 0) ≡ 0
-  root_number = let first = zero_first points are.rising (are.all 0 (inl refl)) in ap (λ u. number (at_node u)) (sym first.1) ∙ place_is 0 first.0
+  root_number = node_number 0 (are.all 0 (inl refl)) ∙ nodes.root_number g points sound are
 
   -- a mirror stands after the nodes, at the place of its value
   pub mirror_at : (k : ℕ) (x : Port) → k < length (values g) → name_by (at_node 0) names (length points + k) ≡ mirror (get_or (values g) k x)
@@ -92,15 +91,36 @@ module _ (g : Graph) (points : List ℕ) (sound : IsSound g) (are : ArePoints g 
       ap number (ap mirror (sym p.1) ∙ sym (mirror_at k x p.0)) ∙ numbered.number_at (shared_terms g) told_point itself_point (at_node 0) names (are_names g points are) (length points + k) more
 
   -- ---- each piece of the arcs
+  -- a difference between nodes, as one of this network
+  abbrev at_nodes : Difference ℕ → Difference Point
+  at_nodes d = record { tail = at_node d.tail; head = at_node d.head; least = d.least }
+
+  -- the arcs between nodes are those of the other network
+  same_arcs : (ds : List (Difference ℕ)) → AllByRecursion (nodes.HasBoth g points sound are) ds → map (numbered_by (terms g) points) ds ≡ map num (map at_nodes ds)
+  same_arcs ds ends =
+      map_same_at (numbered_by (terms g) points) (λ d. num (at_nodes d)) ds
+      (all_weaker (nodes.HasBoth g points sound are) (λ d. numbered_by (terms g) points d ≡ num (at_nodes d)) ds
+      (λ d e. let u = sym (node_number d.tail e.0) in let v = sym (node_number d.head e.1) in λ i. record { tail = u i; head = v i; least = d.least }) ends)
+      ∙ sym (map-map num at_nodes ds)
+
   along_are : map arc_along (links_of g points) ≡ map num (map (along_nodes g) (live_connections g))
   along_are =
-      all_links_map arc_along (λ c. num (along_nodes g c)) g points (λ j has live.
-      let c = connection_at g j in
-      let ends = ends_live g sound c (live_link g j has live) in
-      let u = sym (live_number c.src.0 ends.0) in
-      let v = sym (live_number c.dst.0 ends.1) in
-      λ i. record { tail = u i; head = v i; least = pos (latency_at g c.src.0) })
-      ∙ sym (map-map num (along_nodes g) (live_connections g))
+      nodes.along_are g points sound are ∙ same_arcs (map (along g) (live_connections g)) (nodes.along_ends g points sound are)
+      ∙ ap (map num) (map-map at_nodes (along g) (live_connections g))
+
+  from_root_are : map arc_from_root (range_with_len 1 (length points - 1)) ≡ map num (map root_to (drop 1 points))
+  from_root_are =
+      nodes.from_root_are g points sound are ∙ same_arcs (map from_root (drop 1 points)) (nodes.from_root_ends g points sound are)
+      ∙ ap (map num) (map-map at_nodes from_root (drop 1 points))
+
+  to_root_are : arcs_to_root g points ≡ map num (ends_to_root g latency)
+  to_root_are = nodes.to_root_are g points sound are ∙ same_arcs (to_root g latency) (nodes.to_root_ends g points sound are) ∙ ap (map num) (go (is_live g (input_name g)))
+    where
+      go : (b : Bool)
+          → map at_nodes (cond b (record { tail = input_name g; head = 0; least = pos 0 } ∷ []) [] ++ record { tail = output_name g; head = 0; least = neg_ℤ (pos latency) } ∷ [])
+          ≡ cond b (record { tail = at_node (input_name g); head = at_node 0; least = pos 0 } ∷ []) [] ++ record { tail = at_node (output_name g); head = at_node 0; least = neg_ℤ (pos latency) } ∷ []
+      go true = refl
+      go false = refl
 
   to_mirrors_are : map (arc_to_mirror g points) (links_of g points) ≡ map num (map to_mirror (live_connections g))
   to_mirrors_are =
@@ -111,40 +131,6 @@ module _ (g : Graph) (points : List ℕ) (sound : IsSound g) (are : ArePoints g 
       let v = sym (mirror_is (source c) (value_of g sound c here)) in
       λ i. record { tail = u i; head = v i; least = pos 0 })
       ∙ sym (map-map num to_mirror (live_connections g))
-
-  from_root_are : map arc_from_root (range_with_len 1 (length points - 1)) ≡ map num (map root_to (drop 1 points))
-  from_root_are =
-      let none : Arc = record { tail = 0; head = 0; least = pos 0 } in
-      let count = length-map-range_with_len arc_from_root 1 (length points - 1) in
-      let others = length-map (drop 1 points) (λ v. num (root_to v)) in
-      let fewer = length-drop 1 points in
-      ext_get_or none (map arc_from_root (range_with_len 1 (length points - 1))) (map (λ v. num (root_to v)) (drop 1 points)) (omega arith)
-      (λ k lt.
-      let below : k < length points - 1 = omega arith in
-      let there : k < length (drop 1 points) = omega arith in
-      get_or-map-range_with_len arc_from_root 1 (length points - 1) k (1 + k) none below refl
-      ∙ from_root_is (1 + k) (omega arith)
-      ∙ ap (λ v. num (root_to v)) (sym (get_or_after_one points k 0))
-      ∙ sym (get_or-map (λ v. num (root_to v)) (drop 1 points) k 0 none there))
-      ∙ sym (map-map num root_to (drop 1 points))
-    where
-      from_root_is : (k : ℕ) → k < length points → arc_from_root k ≡ num (root_to (slice_index points k))
-      from_root_is k lt = let u = sym root_number in let v = sym (place_is k lt) in λ i. record { tail = u i; head = v i; least = pos 0 }
-
-  to_root_are : arcs_to_root g points ≡ map num (ends_to_root g latency)
-  to_root_are = go (is_live g (input_name g)) refl
-    where
-      end : (v : ℕ) (l : ℤ) → IsLive g v → record { tail = number_in points v; head = 0; least = l } ≡ num (record { tail = at_node v; head = at_node 0; least = l })
-      end v l live = let u = sym (live_number v live) in let z = sym root_number in λ i. record { tail = u i; head = z i; least = l }
-
-      out : record { tail = number_in points (output_name g); head = 0; least = neg_ℤ (pos latency) } ≡ num (record { tail = at_node (output_name g); head = at_node 0; least = neg_ℤ (pos latency) })
-      out = end (output_name g) (neg_ℤ (pos latency)) (output_live g sound)
-
-      go : (b : Bool) → is_live g (input_name g) ≡ b
-          → cond b (record { tail = number_in points (input_name g); head = 0; least = pos 0 } ∷ []) [] ++ record { tail = number_in points (output_name g); head = 0; least = neg_ℤ (pos latency) } ∷ []
-          ≡ map num (cond b (record { tail = at_node (input_name g); head = at_node 0; least = pos 0 } ∷ []) [] ++ record { tail = at_node (output_name g); head = at_node 0; least = neg_ℤ (pos latency) } ∷ [])
-      go true e = let first = end (input_name g) (pos 0) (live_by g sound (input_name g) e) in λ i. first i ∷ out i ∷ []
-      go false e = λ i. out i ∷ []
 
   from_mirrors_are : map (arc_from_mirror latency) (range_with_len (length points) (length (values g))) ≡ map num (map (mirror_to_root latency) (values g))
   from_mirrors_are =
@@ -187,29 +173,11 @@ module _ (g : Graph) (points : List ℕ) (sound : IsSound g) (are : ArePoints g 
       ∙ ap (λ xs. map num (map (along_nodes g) (live_connections g)) ++ xs) (sym (map-append num (map to_mirror (live_connections g)) (map root_to (drop 1 points) ++ last_two)))
       ∙ sym (map-append num (map (along_nodes g) (live_connections g)) (map to_mirror (live_connections g) ++ (map root_to (drop 1 points) ++ last_two)))
 
-  -- a live node is listed, and stands beyond the root; and the other way round
-  later_live : (v : ℕ) → Contains (live_nodes g) v → Contains (drop 1 points) v
-  later_live v has =
-      let live = live_by g sound v (filter_from (is_live g) (map (λ n. n.uid.0) g.nodes) v has).1 in
-      later_has points v (are.all v (inr live)) (λ same. let first = (zero_first points are.rising (are.all 0 (inl refl))).1 in let n = live_is_named g sound v live in omega arith)
-
-  live_later : (v : ℕ) → Contains (drop 1 points) v → Contains (live_nodes g) v
-  live_later v (k, lt, e) =
-      let below : 1 + k < length points = omega (arith, length-drop 1 points) in
-      let more = AllPairs-from_increasing points are.rising 0 (1 + k) 0 (omega arith) below in
-      let at = get_or_after_one points k 0 in
-      let same = get_or_default (drop 1 points) k v 0 lt in
-      let is : slice_index points (1 + k) ≡ v = sym at ∙ sym same ∙ e in
-      elim (are.each (1 + k) 0 below) [
-        | inl none ↦ absurd (omega arith)
-        | inr live ↦ subst (Contains (live_nodes g)) is (live_listed g sound (slice_index points (1 + k)) live)
-      ]
-
   network_has : (d : Difference Point) → Contains told d → Contains (shared_network g latency) d
-  network_has d has = third (map (along_nodes g) (live_connections g)) (map to_mirror (live_connections g)) (map root_to (drop 1 points)) (map root_to (live_nodes g)) last_two d (λ h. mapped root_to (drop 1 points) (live_nodes g) live_later d h) has
+  network_has d has = third (map (along_nodes g) (live_connections g)) (map to_mirror (live_connections g)) (map root_to (drop 1 points)) (map root_to (live_nodes g)) last_two d (λ h. mapped root_to (drop 1 points) (live_nodes g) (nodes.live_later g points sound are) d h) has
 
   told_has : (d : Difference Point) → Contains (shared_network g latency) d → Contains told d
-  told_has d has = third (map (along_nodes g) (live_connections g)) (map to_mirror (live_connections g)) (map root_to (live_nodes g)) (map root_to (drop 1 points)) last_two d (λ h. mapped root_to (live_nodes g) (drop 1 points) later_live d h) has
+  told_has d has = third (map (along_nodes g) (live_connections g)) (map to_mirror (live_connections g)) (map root_to (live_nodes g)) (map root_to (drop 1 points)) last_two d (λ h. mapped root_to (live_nodes g) (drop 1 points) (nodes.later_live g points sound are) d h) has
 
   -- each has both ends among the names
   abbrev HasBoth : Difference Point → Type 0
@@ -253,7 +221,7 @@ module _ (g : Graph) (points : List ℕ) (sound : IsSound g) (are : ArePoints g 
       let along = length-map (links_of g points) arc_along in
       let mirrors = length-map (links_of g points) (arc_to_mirror g points) in
       let root = length-map-range_with_len arc_from_root 1 (length points - 1) in
-      let ends = to_root_few (is_live g (input_name g)) in
+      let ends = nodes.to_root_few g points sound are in
       let back = length-map-range_with_len (arc_from_mirror latency) (length points) (length (values g)) in
       let a = length-append (map arc_along (links_of g points)) (map (arc_to_mirror g points) (links_of g points) ++ (map arc_from_root (range_with_len 1 (length points - 1)) ++ (arcs_to_root g points ++ map (arc_from_mirror latency) (range_with_len (length points) (length (values g)))))) in
       let b = length-append (map (arc_to_mirror g points) (links_of g points)) (map arc_from_root (range_with_len 1 (length points - 1)) ++ (arcs_to_root g points ++ map (arc_from_mirror latency) (range_with_len (length points) (length (values g))))) in
@@ -261,11 +229,6 @@ module _ (g : Graph) (points : List ℕ) (sound : IsSound g) (are : ArePoints g 
       let d = length-append (arcs_to_root g points) (map (arc_from_mirror latency) (range_with_len (length points) (length (values g)))) in
       let values_few = few_values g sound in
       omega (arith, sound.fits.1, are.few)
-    where
-      to_root_few : (b : Bool) → length {A = Arc} (cond b (record { tail = number_in points (input_name g); head = 0; least = pos 0 } ∷ []) []
-          ++ record { tail = number_in points (output_name g); head = 0; least = neg_ℤ (pos (latency_of_graph g)) } ∷ []) ≤ 2
-      to_root_few true = omega arith
-      to_root_few false = omega arith
 
   pub shared_arcs_are : IsTotalOrder order → (sorted arcs : List Arc) → IsPermutation made sorted → IsSorted order sorted → arcs ≡ dedup (eq_by_cmp order) sorted → length arcs ≤ length sorted → AreSharedArcs g points arcs
   shared_arcs_are total sorted arcs moved up is fewer = record {

@@ -5,13 +5,10 @@ use Rattle.std.proofs.lemmas.Int.{ints}
 use Rattle.std.proofs.lemmas.List.{length-append, length-map}
 use Rattle.std.proofs.lemmas.List.Elements.{All-contains, All-from_recursion, Contains-get_or, Contains-append_cases, Contains-append_left, Contains-append_right}
 use Rattle.graph_model.specs.Graphs.{input_name, output_name}
-use Rattle.graph_model.specs.Paths.{IsLive, IsPathTo, is_live, live_nodes, live_connections, latency_of_graph, reach, depth}
+use Rattle.graph_model.specs.Paths.{IsLive, is_live, live_nodes, live_connections, latency_of_graph, reach}
 use Rattle.graph_model.specs.Sound.{IsSound}
 use Rattle.graph_model.specs.declared.graph.Graph.{Graph}
 use Rattle.graph_model.proofs.HistoryLaws.{all_of}
-use Rattle.graph_model.proofs.PathLaws.{first_or_later, live_source}
-use Rattle.graph_model.proofs.RankLaws.{sound_is_ranked}
-use Rattle.graph_model.proofs.ReachLaws.{filter_has}
 use Rattle.shortest_paths.specs.declared.edges.Edge.{Edge}
 use Rattle.min_cost_flow.specs.Flow.{IsNetwork, length_of}
 use Rattle.min_cost_flow.specs.declared.network.Network.{Network}
@@ -32,13 +29,10 @@ use Rattle.alignment.proofs.NetworkFacts.{reach_is_alignment, some_latency}
 use Rattle.alignment.proofs.SharedPointFacts.{are_names, node_named, mirror_named}
 use Rattle.alignment.proofs.SolvableLaws.{hop, joins, solvable}
 use Rattle.alignment.proofs.NumberedLaws as numbered
-use Rattle.alignment.proofs.ValueFacts.{live_listed}
+use Rattle.alignment.proofs.SortedArcLaws.{map_same_at}
+use Rattle.alignment.proofs.ValueFacts.{each_live, live_listed}
 use Rattle.alignment.proofs.ValueListFacts.{few_values}
-use Rattle.graph_model.proofs.LiveLaws.{live_test, ends_live, output_live}
-
-pub map_same_at : {X Y : Type 0} (f h : X → Y) (xs : List X) → AllByRecursion (λ x. f x ≡ h x) xs → map f xs ≡ map h xs
-map_same_at f h [] e = refl
-map_same_at f h (x ∷ xs) e = λ i. e.0 i ∷ map_same_at f h xs e.1 i
+use Rattle.graph_model.proofs.LiveLaws.{ends_live}
 
 -- the need of a point is the links in minus the links out
 pub needs_linked_at : (g : Graph) (points : List ℕ) → IsSound g → ArePoints g points → (x : Point) → Contains (shared_points g points) x → need_by g x.uid x.channel ≡ links_needed (shared_terms g) (values g) x
@@ -142,24 +136,11 @@ module _ (g : Graph) (points : List ℕ) (net : Network) (sound : IsSound g) (ar
       (along_edge d (last_ones d (Contains-append_left (ends_to_root g latency) _ d
       (Contains-append_right (cond (is_live g (input_name g)) (record { tail = at_node (input_name g); head = at_node 0; least = pos 0 } ∷ []) []) _ d (0, omega arith, refl)))))
 
-  path_back : (v : ℕ) (us : List ℕ) → IsPathTo g v us → is_live g v ≡ true → Reaches edges (number (at_node v)) 0 → (w : ℕ) → Contains (v ∷ us) w → Reaches edges (number (at_node w)) 0
-  path_back v [] path live h w has =
-      elim (first_or_later v w [] has) [ inl same ↦ subst (λ u. Reaches edges (number (at_node u)) 0) same h | inr there ↦ (let l = there.1 in absurd (omega arith)) ]
-  path_back v (u ∷ us) (node, (c, joined, src, dst), path) live h w has =
-      elim (first_or_later v w (u ∷ us) has) [
-        | inl same ↦ subst (λ n. Reaches edges (number (at_node n)) 0) same h
-        | inr there ↦
-            (let live_here : is_live g c.dst.0 ≡ true = ap (is_live g) dst ∙ live in
-            let kept = filter_has (λ d. is_live g d.dst.0) g.connections c joined live_here in
-            let step = along_edge (along_nodes g c) (Contains-append_left (map (along_nodes g) (live_connections g)) _ (along_nodes g c) (Contains-map (along_nodes g) (live_connections g) c kept)) in
-            let at_dst = subst (λ n. Reaches edges (number (at_node n)) 0) (sym dst) h in
-            let at_src = joins edges (number (at_node c.src.0)) (number (at_node c.dst.0)) 0 step at_dst in
-            path_back u us path (ap (is_live g) (sym src) ∙ live_source g (depth g) (sound_is_ranked g sound) c joined live_here)
-            (subst (λ n. Reaches edges (number (at_node n)) 0) src at_src) w there)
-      ]
-
   node_back : (v : ℕ) → IsLive g v → Reaches edges (number (at_node v)) 0
-  node_back v live = path_back (output_name g) live.0 live.1 (live_test g sound (output_name g) (output_live g sound)) from_output v live.2
+  node_back = each_live g sound (λ v. Reaches edges (number (at_node v)) 0) from_output
+      (λ c has rest.
+      joins edges (number (at_node c.src.0)) (number (at_node c.dst.0)) 0
+      (along_edge (along_nodes g c) (Contains-append_left (map (along_nodes g) (live_connections g)) _ (along_nodes g c) (Contains-map (along_nodes g) (live_connections g) c has))) rest)
 
   at_each : (Q : ℕ → Type 0) → Q 0 → ((v : ℕ) → IsLive g v → Q (number (at_node v))) → ((x : Port) → Contains (values g) x → Q (number (mirror x))) → (k : ℕ) → k < length names → Q k
   at_each Q q nodes mirrors k lt = subst Q (number_at k lt) (at_member (name_by (at_node 0) names k) (Contains-append_cases (map at_node points) (map mirror (values g)) _ (Contains-get_or names k (at_node 0) lt)))

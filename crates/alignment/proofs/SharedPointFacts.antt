@@ -1,17 +1,15 @@
 -- The points of the network of shared lines, and the arcs between them.
-use Rattle.std.proofs.Common.{◌≡◌, ℕ, suc, ◌<◌, ℤ, pos, neg_ℤ, List, [], ◌∷◌, ◌++◌, length, map, get_or, refl, sym, ap, subst, ◌∙◌, arith, cond, Bool, true, false, Option, Some, None, inl, inr}
+use Rattle.std.proofs.Common.{◌≡◌, ℕ, suc, ◌<◌, ℤ, pos, neg_ℤ, List, [], ◌∷◌, ◌++◌, length, map, get_or, refl, ap, subst, arith, cond, Bool, true, false, Option, Some, None, inl, inr}
 use Rattle.std.specs.Prelude.{AllPairs}
 use Rattle.std.specs.List.{AllByRecursion, Contains}
-use Rattle.std.specs.Cmp.{first_so, second_so}
-use Rattle.std.proofs.lemmas.List.Elements.{All-contains, All-from_recursion, Contains-get_or, Contains-append_cases, Contains-append_left, Contains-append_right}
+use Rattle.std.proofs.lemmas.List.Elements.{All-contains, Contains-get_or, Contains-append_cases, Contains-append_left, Contains-append_right}
 use Rattle.std.proofs.lemmas.List.Kept.{AllPairs-cons, AllPairs-from_increasing}
 use Rattle.graph_model.specs.Graphs.{input_name, output_name}
 use Rattle.graph_model.specs.Paths.{is_live, live_nodes, live_connections, latency_of_graph}
 use Rattle.graph_model.specs.Sound.{IsSound}
 use Rattle.graph_model.specs.declared.graph.Graph.{Graph}
 use Rattle.graph_model.proofs.HistoryLaws.{all_of}
-use Rattle.graph_model.proofs.PathLaws.{and_both}
-use Rattle.plan_model.specs.Networks.{Difference, is_arc_between}
+use Rattle.plan_model.specs.Networks.{Difference}
 use Rattle.plan_model.specs.Lives.{Port, values}
 use Rattle.plan_model.specs.SharedFlows.{at_node, mirror, same_point, shared_terms, along_nodes, to_mirror, root_to, ends_to_root, mirror_to_root, shared_network, shared_arc, IsPointBefore, ComesBeforePoint}
 use Rattle.plan_model.specs.declared.shared.Point.{Point}
@@ -23,7 +21,7 @@ use Rattle.plan_model.proofs.ValueLaws.{values_are_listed}
 use Rattle.alignment.specs.Networks.{ArePoints}
 use Rattle.alignment.specs.SharedNetworks.{shared_points}
 use Rattle.alignment.specs.Numbered.{name_by, AreNames}
-use Rattle.alignment.proofs.ArcFacts.{least_between, find_only, between_nodes, from_input, from_output, ends_differ, output_named}
+use Rattle.alignment.proofs.ArcFacts.{least_between, found_between, between_nodes, from_input, from_output, ends_differ, output_named}
 use Rattle.alignment.proofs.PlaceLists.{zero_first}
 
 AllPairs_append : {X : Type 0} (R : X → X → Type 0) (xs ys : List X) → AllPairs R xs → AllPairs R ys → ((x y : X) → Contains xs x → Contains ys y → R x y) → AllPairs R (xs ++ ys)
@@ -91,18 +89,8 @@ module _ (g : Graph) (sound : IsSound g) where
       go true = (from_input g sound (input_name g) (ends_differ g sound), (last, tt))
       go false = (last, tt)
 
-  same_ends : (d e : Difference Point) → IsAsAt g d → IsAsAt g e → is_arc_between (shared_terms g) e.tail e.head d ≡ true → d ≡ e
-  same_ends d e at_d at_e is =
-      let t = told_point d.tail e.tail (first_so _ _ is) in
-      let h = told_point d.head e.head (second_so _ _ is) in
-      let least : d.least ≡ e.least = at_d ∙ (λ i. least_at g (t i).uid (t i).channel (h i).uid (h i).channel) ∙ sym at_e in
-      λ i. record { tail = t i; head = h i; least = least i }
-
   pub shared_arc_found : (d : Difference Point) → Contains (shared_network g (latency_of_graph g)) d → shared_arc g (latency_of_graph g) d.tail d.head ≡ Some d
-  shared_arc_found d has =
-      let all = All-from_recursion (IsAsAt g) (shared_network g (latency_of_graph g)) as_at in
-      find_only (is_arc_between (shared_terms g) d.tail d.head) (shared_network g (latency_of_graph g)) d has (and_both _ _ (itself_point d.tail) (itself_point d.head))
-      (λ e there is. same_ends e d (All-contains (IsAsAt g) _ e all there) (All-contains (IsAsAt g) _ d all has) is)
+  shared_arc_found = found_between (shared_terms g) told_point itself_point (λ x y. least_at g x.uid x.channel y.uid y.channel) (shared_network g (latency_of_graph g)) as_at
 
 -- ---- the points
 module _ (g : Graph) (points : List ℕ) (are : ArePoints g points) where

@@ -7,9 +7,8 @@ use Rattle.std.proofs.lemmas.Int.{ints}
 use Rattle.std.proofs.lemmas.List.Elements.{All-contains, All-weaker, Contains-get_or}
 use Rattle.graph_model.specs.Graphs.{latency_at}
 use Rattle.graph_model.specs.Paths.{IsLive, live_nodes, live_connections, latency_of_graph}
-use Rattle.graph_model.specs.Sound.{IsSound}
 use Rattle.graph_model.specs.declared.graph.Graph.{Graph}
-use Rattle.min_cost_flow.specs.Flow.{IsTight, MeetsNeeds}
+use Rattle.min_cost_flow.specs.Flow.{MeetsNeeds}
 use Rattle.min_cost_flow.specs.Laws.{weighted}
 use Rattle.min_cost_flow.specs.declared.network.Arc.{Arc}
 use Rattle.min_cost_flow.specs.declared.network.Network.{Network}
@@ -28,10 +27,10 @@ use Rattle.plan_model.proofs.Saved.{Contains-from_map, Contains-map}
 use Rattle.plan_model.proofs.SharedBestLaws.{shared_least_of_optima}
 use Rattle.plan_model.proofs.SharedLaws.{told_point, itself_point, reader}
 use Rattle.shortest_paths.specs.Walks.{number_of, from_zero}
-use Rattle.alignment.specs.Networks.{ArePoints}
 use Rattle.alignment.specs.SharedNetworks.{shared_points, point_entry, IsSharedNetworkOf}
 use Rattle.alignment.specs.Numbered.{name_by, number_by, entries_by, AreNames}
 use Rattle.alignment.proofs.NumberedLaws as numbered
+use Rattle.alignment.proofs.Solutions.{IsSolutionOf}
 use Rattle.alignment.proofs.SharedPointFacts.{shared_arc_found, in_order, are_names, node_named, mirror_named}
 use Rattle.graph_model.proofs.LiveLaws.{ends_live}
 use Rattle.alignment.proofs.ValueFacts.{live_listed}
@@ -40,37 +39,7 @@ use Rattle.std.proofs.lemmas.List.Elements.{Contains-append_left, Contains-appen
 pub point_made : (u v : Point) (n : ℕ) → ((point_entry u v n).tail ≡ u) × ((point_entry u v n).head ≡ v) × ((point_entry u v n).units ≡ n)
 point_made u v n = (refl, refl, refl)
 
--- the network with what the solver gives for it
-pub record IsSharedSolution (g : Graph) (points : List ℕ) (net : Network) (solved : Solved) : Type 0 where
-  pub sound : IsSound g
-  pub are : ArePoints g points
-  pub network : IsSharedNetworkOf g points net
-  pub units : length solved.flow ≡ length net.arcs
-  pub each : length solved.potential ≡ net.points
-  pub meets : MeetsNeeds net.points net.arcs net.need solved.flow
-  pub tight : IsTight net.arcs solved.flow (number_of solved.potential)
-  pub root : number_of solved.potential 0 ≡ pos 0
-  pub least : (q : List ℤ) → number_of q 0 ≡ pos 0 → IsTight net.arcs solved.flow (number_of q) → (v : ℕ) → v < net.points → number_of solved.potential v ≤ℤ number_of q v
-
--- what the calls give, joined; the points were handed over as a list of their own
-pub shared_solution : (g : Graph) (points handed : List ℕ) (net : Network) (solved : Solved) → ArePoints g points → IsSound g → handed ≡ points → IsSharedNetworkOf g handed net
-    → (length solved.flow ≡ length net.arcs) × (length solved.potential ≡ net.points) → MeetsNeeds net.points net.arcs net.need solved.flow → IsTight net.arcs solved.flow (number_of solved.potential)
-    → number_of solved.potential 0 ≡ pos 0
-    → ((q : List ℤ) → number_of q 0 ≡ pos 0 → IsTight net.arcs solved.flow (number_of q) → (v : ℕ) → v < net.points → number_of solved.potential v ≤ℤ number_of q v)
-    → IsSharedSolution g points net solved
-shared_solution g points handed net solved are sound same network sizes meets tight root least = record {
-  sound = sound;
-  are = are;
-  network = subst (λ ps. IsSharedNetworkOf g ps net) same network;
-  units = sizes.0;
-  each = sizes.1;
-  meets = meets;
-  tight = tight;
-  root = root;
-  least = least;
-}
-
-module _ (g : Graph) (points : List ℕ) (net : Network) (solved : Solved) (s : IsSharedSolution g points net solved) where
+module _ (g : Graph) (points : List ℕ) (net : Network) (solved : Solved) (s : IsSolutionOf IsSharedNetworkOf g points net solved) where
   abbrev latency : ℕ
   latency = latency_of_graph g
 
@@ -138,6 +107,9 @@ module _ (g : Graph) (points : List ℕ) (net : Network) (solved : Solved) (s : 
           let e = ap value w.2 in
           omega (arith, ints)
 
+  stands_name : (k : ℕ) → k < length names → pos (stands (name_by (at_node 0) names k)) ≡ number_of solved.potential k
+  stands_name = numbered.from_zero_at (shared_terms g) told_point itself_point (at_node 0) names named solved.potential from
+
   -- ---- the flow
   met : MeetsNeeds (length names) net.arcs (map (λ x. need_by g x.uid x.channel) names) solved.flow
   met v lt = let below : v < net.points = subst (λ n. v < n) (sym s.network.numbered) lt in s.meets v below ∙ ap (λ xs. number_of xs v) s.network.need
@@ -180,18 +152,18 @@ module _ (g : Graph) (points : List ℕ) (net : Network) (solved : Solved) (s : 
   -- ---- the best
   are_potentials : ArePotentials g latency stands
   are_potentials = record {
-    root = numbered.at_root (shared_terms g) told_point itself_point point_entry point_made (at_node 0) names named (shared_network g latency) net.arcs s.network.arcs.are (shared_arc_found g s.sound) solved.flow solved.potential s.tight s.root from;
-    keeps = numbered.keeps (shared_terms g) told_point itself_point point_entry point_made (at_node 0) names named (shared_network g latency) net.arcs s.network.arcs.are (shared_arc_found g s.sound) solved.flow solved.potential s.tight s.root from;
+    root = numbered.at_root (shared_terms g) told_point itself_point point_entry point_made (at_node 0) names named (shared_network g latency) net.arcs s.network.arcs.are (shared_arc_found g s.sound) solved.flow solved.potential s.tight s.root stands stands_name;
+    keeps = numbered.keeps (shared_terms g) told_point itself_point point_entry point_made (at_node 0) names named (shared_network g latency) net.arcs s.network.arcs.are (shared_arc_found g s.sound) solved.flow solved.potential s.tight s.root stands stands_name;
   }
 
   tight_at : All (IsSharedTight g latency stands) carried
-  tight_at = numbered.tight_at (shared_terms g) told_point itself_point point_entry point_made (at_node 0) names named (shared_network g latency) net.arcs s.network.arcs.are (shared_arc_found g s.sound) solved.flow solved.potential s.tight s.root from
+  tight_at = numbered.tight_at (shared_terms g) told_point itself_point point_entry point_made (at_node 0) names named (shared_network g latency) net.arcs s.network.arcs.are (shared_arc_found g s.sound) solved.flow solved.potential s.tight s.root stands stands_name
 
   all_of_it : IsBestShared g (λ v. stands (at_node v)) × (pos (shared_total g (λ v. stands (at_node v))) ≡ shared_bound g latency carried)
       × All (λ x. stands (mirror x) ≡ stands (at_node x.uid.0) + latency_at g x.uid.0 + line_length g (λ v. stands (at_node v)) x) (values g)
   all_of_it = shared_least_of_optima g carried stands s.sound is_flow are_potentials tight_at
       (λ q potentials on_q v live.
-      numbered.at_least (shared_terms g) told_point itself_point point_entry point_made (at_node 0) names named (shared_network g latency) net.arcs s.network.arcs.are (shared_arc_found g s.sound) solved.flow solved.potential s.tight s.root from
+      numbered.at_least (shared_terms g) told_point itself_point point_entry point_made (at_node 0) names named (shared_network g latency) net.arcs s.network.arcs.are (shared_arc_found g s.sound) solved.flow solved.potential s.tight s.root stands stands_name
       (λ qs zero_at tight k lt. s.least qs zero_at tight k (subst (λ n. k < n) (sym s.network.numbered) lt))
       q potentials.root potentials.keeps on_q (at_node v) (node_named g points s.are v (s.are.all v (inr live))))
 

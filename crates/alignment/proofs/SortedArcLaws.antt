@@ -1,7 +1,7 @@
 -- Differences by the numbers of their ends, sorted and each once, are the arcs of their network.
-use Rattle.std.proofs.Common.{◌≡◌, ◌<◌, List, ◌++◌, length, map, get_or, refl, sym, ap, subst, ◌∙◌, arith, true, false, inl, inr, Ordering, Less, Equal, Greater, IsPermutation, nat_cmp, Some}
+use Rattle.std.proofs.Common.{◌≡◌, ◌<◌, List, [], ◌∷◌, ◌++◌, length, map, get_or, refl, sym, ap, subst, ◌∙◌, arith, true, false, inl, inr, Ordering, Less, Equal, Greater, IsPermutation, nat_cmp, Some}
 use Rattle.std.specs.Prelude.{AllPairs}
-use Rattle.std.specs.List.{All, Contains, dedup}
+use Rattle.std.specs.List.{All, AllByRecursion, Contains, dedup}
 use Rattle.std.specs.List.Sorted.{IsSorted, IsStrictlySortedBy}
 use Rattle.std.specs.Ordering.{ordering_then, int_cmp, eq_by_cmp, is_eq}
 use Rattle.std.specs.Cmp.{IsTotalOrder}
@@ -66,8 +66,14 @@ third vs bs cs ds es x f has =
       ])
     ]
 
+-- what has more members maps to what has more
 pub mapped : {X Y : Type 0} (f : X → Y) (xs ys : List X) → ((x : X) → Contains xs x → Contains ys x) → (y : Y) → Contains (map f xs) y → Contains (map f ys) y
 mapped f xs ys h y has = let x = Contains-from_map f xs y has in subst (Contains (map f ys)) x.2 (Contains-map f ys x.0 (h x.0 x.1))
+
+-- functions that are equal at each item
+pub map_same_at : {X Y : Type 0} (f h : X → Y) (xs : List X) → AllByRecursion (λ x. f x ≡ h x) xs → map f xs ≡ map h xs
+map_same_at f h [] e = refl
+map_same_at f h (x ∷ xs) e = λ i. e.0 i ∷ map_same_at f h xs e.1 i
 
 -- ---- arcs of a network between points of any type
 module _ {P E L : Type 0} (t : Terms P E L) (told : (u v : P) → t.same u v ≡ true → u ≡ v) (itself : (v : P) → t.same v v ≡ true) (root : P) (names : List P) (differences : List (Difference P)) where

@@ -1,5 +1,5 @@
 -- Live nodes of a sound graph, and values of its points that keep the differences of its network.
-use Rattle.std.proofs.Common.{◌≡◌, ℕ, ◌+◌, ◌≤◌, ℤ, pos, ◌+ℤ◌, ◌-ℤ◌, neg_ℤ, ◌≤ℤ◌, List, [], ◌∷◌, map, get_or, refl, sym, ap, ◌∙◌, arith, cond, true, None, inl, inr}
+use Rattle.std.proofs.Common.{◌≡◌, ℕ, ◌+◌, ◌≤◌, ℤ, pos, ◌+ℤ◌, ◌-ℤ◌, neg_ℤ, ◌≤ℤ◌, List, [], ◌∷◌, map, get_or, refl, sym, ap, subst, ◌∙◌, arith, cond, true, None, inl, inr}
 use Rattle.std.specs.List.{Contains}
 use Rattle.std.proofs.lemmas.Int.{ints}
 use Rattle.std.proofs.lemmas.List.Elements.{All-contains, All-map, All-weaker, Contains-get_or, Contains-append_left, Contains-append_right}
@@ -37,22 +37,21 @@ module _ (g : Graph) (sound : IsSound g) where
   pub live_listed : (v : ℕ) → IsLive g v → Contains (live_nodes g) v
   live_listed v live = filter_has (is_live g) (map (λ n. n.uid.0) g.nodes) v (listed g v live) (live_test g sound v live)
 
-  -- what does not fall along live connections is at most its value at the end of a path
-  highest_last : (f : ℕ → ℤ) → ((c : Connection) → Contains (live_connections g) c → f c.src.0 ≤ℤ f c.dst.0)
-      → (v : ℕ) (us : List ℕ) → IsPathTo g v us → is_live g v ≡ true → (w : ℕ) → Contains (v ∷ us) w → f w ≤ℤ f v
-  highest_last f rises v [] path is w has =
-      elim (first_or_later v w [] has) [ inl same ↦ (let e = ap f same in omega (arith, ints)) | inr there ↦ (let l = there.1 in absurd (omega arith)) ]
-  highest_last f rises v (u ∷ us) path is w has =
-      let j = path.1 in
-      let dst : is_live g j.0.dst.0 ≡ true = ap (is_live g) j.3 ∙ is in
-      let src : is_live g u ≡ true = ap (is_live g) (sym j.2) ∙ live_source g (depth g) (sound_is_ranked g sound) j.0 j.1 dst in
-      let step = rises j.0 (filter_has (λ c. is_live g c.dst.0) g.connections j.0 j.1 dst) in
-      let s = ap f j.2 in
-      let t = ap f j.3 in
-      elim (first_or_later v w (u ∷ us) has) [
-        | inl same ↦ (let e = ap f same in omega (arith, ints))
-        | inr there ↦ (let l = highest_last f rises u us path.2 src w there in omega (arith, ints))
-      ]
+  -- what holds of the output node, and of the source of a live connection where it holds of its destination, holds of each live node
+  pub each_live : (Q : ℕ → Type 0) → Q (output_name g) → ((c : Connection) → Contains (live_connections g) c → Q c.dst.0 → Q c.src.0) → (v : ℕ) → IsLive g v → Q v
+  each_live Q last back v live = on_path (output_name g) live.0 live.1 (live_test g sound (output_name g) (output_live g sound)) last v live.2
+    where
+      on_path : (u : ℕ) (us : List ℕ) → IsPathTo g u us → is_live g u ≡ true → Q u → (w : ℕ) → Contains (u ∷ us) w → Q w
+      on_path u [] path is q w has = elim (first_or_later u w [] has) [ inl same ↦ subst Q same q | inr there ↦ (let l = there.1 in absurd (omega arith)) ]
+      on_path u (x ∷ us) (node, (c, joined, src, dst), path) is q w has =
+          elim (first_or_later u w (x ∷ us) has) [
+            | inl same ↦ subst Q same q
+            | inr there ↦
+                (let here : is_live g c.dst.0 ≡ true = ap (is_live g) dst ∙ is in
+                let kept = filter_has (λ d. is_live g d.dst.0) g.connections c joined here in
+                on_path x us path (ap (is_live g) (sym src) ∙ live_source g (depth g) (sound_is_ranked g sound) c joined here)
+                (subst Q src (back c kept (subst Q (sym dst) q))) w there)
+          ]
 
   -- ---- what the network has
   -- the arc along a live connection
@@ -101,8 +100,7 @@ module _ (g : Graph) (sound : IsSound g) (value : ℕ → ℤ) (root : value 0 �
   live_within v live =
       let r = rises (from_root v) (from_root_there g sound v live) in
       let z = root in
-      let top = highest_last g sound value (λ c has. let a = value_after c has in omega (arith, ints)) (output_name g) live.0 live.1 (live_test g sound (output_name g) (output_live g sound)) v live.2 in
-      let end = value_of_output in
+      let top = each_live g sound (λ w. value w ≤ℤ pos (latency_of_graph g)) value_of_output (λ c has le. let a = value_after c has in omega (arith, ints)) v live in
       (omega (arith, ints), omega (arith, ints))
 
   -- and so at a point

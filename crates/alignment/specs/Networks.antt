@@ -1,14 +1,14 @@
 -- The network of a graph by the numbers of its points.
-use Rattle.std.specs.Prelude.{◌≡◌, ℕ, ◌<◌, ◌≤◌, ◌^◌, ◌==◌, List, length, map, slice_index, AllPairs}
+use Rattle.std.specs.Prelude.{◌≡◌, ℕ, ◌≤◌, ◌^◌, ◌==◌, List, length, map, AllPairs}
 use Rattle.std.specs.List.{All, Contains, position_or_len}
 use Rattle.std.specs.List.Sorted.{IsStrictlyIncreasing}
 use Rattle.graph_model.specs.Paths.{latency_of_graph}
 use Rattle.graph_model.specs.declared.graph.Graph.{Graph}
-use Rattle.plan_model.specs.Flows.{IsPoint, network, need_of_point}
-use Rattle.plan_model.specs.Networks.{Difference}
+use Rattle.plan_model.specs.Flows.{IsPoint, network, need_of_point, terms}
 use Rattle.plan_model.specs.Pairs.{ComesBefore}
 use Rattle.min_cost_flow.specs.declared.network.Arc.{Arc}
 use Rattle.min_cost_flow.specs.declared.network.Network.{Network}
+use Rattle.alignment.specs.Numbered.{AreArcsBy}
 
 -- the names of the points, ascending: the root, and the live nodes; a point's number is its place
 pub record ArePoints (g : Graph) (points : List ℕ) : Type 0 where
@@ -21,15 +21,9 @@ pub record ArePoints (g : Graph) (points : List ℕ) : Type 0 where
 abbrev pub number_in : List ℕ → ℕ → ℕ
 number_in points v = position_or_len (λ u. u == v) points
 
--- an arc, by the names of its ends
-abbrev pub named : List ℕ → Arc → Difference ℕ
-named points a = record { tail = slice_index points a.tail; head = slice_index points a.head; least = a.least }
-
 -- exactly the difference constraints of the graph's network, each once, ascending by tail and then by head
 pub record AreNetworkArcs (g : Graph) (points : List ℕ) (arcs : List Arc) : Type 0 where
-  pub ends : All (λ a. (a.tail < length points) × (a.head < length points)) arcs
-  pub each : All (λ a. Contains (network g (latency_of_graph g)) (named points a)) arcs
-  pub all : All (λ d. Contains (map (named points) arcs) d) (network g (latency_of_graph g))
+  pub are : AreArcsBy (terms g) 0 points (network g (latency_of_graph g)) arcs
   pub rising : AllPairs (λ a b. ComesBefore (a.tail, a.head) (b.tail, b.head)) arcs
   pub few : length arcs ≤ 2 ^ 14
 

@@ -9,11 +9,12 @@ use Rattle.min_cost_flow.specs.declared.network.Arc.{Arc}
 use Rattle.plan_model.specs.Alignments.{total}
 use Rattle.alignment.specs.Carried.{carried_by}
 use Rattle.alignment.specs.Links.{links_of}
-use Rattle.alignment.specs.Networks.{ArePoints}
+use Rattle.alignment.specs.Networks.{ArePoints, IsNetworkOf}
 use Rattle.alignment.specs.Places.{ArePositions, delay_of, line_of, places_of}
 use Rattle.alignment.specs.declared.links.Link.{Link}
 use Rattle.alignment.proofs.NetworkFacts.{network_is_one}
-use Rattle.alignment.proofs.AlignFacts.{solution, positions, timely, few_links, leasts, bound_is, is_aligned_as}
+use Rattle.alignment.proofs.Solutions.{solution}
+use Rattle.alignment.proofs.AlignFacts.{positions, timely, few_links, leasts, bound_is, is_aligned_as}
 use Rattle.plan_model.proofs.BestLaws.{no_earlier}
 use Rattle.alignment.proofs.align.Goals as goal
 
@@ -25,21 +26,21 @@ solve-requires c =
 pub places-requires-clause-positions : goal.places-requires-clause-positions
 places-requires-clause-positions c =
     let e = c.in_ok-solved.ensures in
-    let s = solution c.args.graph.now c.in_ok-points.points.items c.deref-2.result.now c.in_ok-network.network c.in_ok-solved.solved
+    let s = solution IsNetworkOf c.args.graph.now c.in_ok-points.points.items c.deref-2.result.now c.in_ok-network.network c.in_ok-solved.solved
     c.in_ok-points.ensures.points c.in_ok-points.ensures.sound c.deref-2.ensures.value c.in_ok-network.ensures e.sizes e.meets e.tight e.root e.least in
     subst ArePositions (sym c.as_slice-potentials.ensures) (positions c.args.graph.now c.in_ok-points.points.items c.in_ok-network.network c.in_ok-solved.solved s)
 
 pub lines-requires-clause-positions : goal.lines-requires-clause-positions
 lines-requires-clause-positions c =
     let e = c.in_ok-solved.ensures in
-    let s = solution c.args.graph.now c.in_ok-points.points.items c.deref-2.result.now c.in_ok-network.network c.in_ok-solved.solved
+    let s = solution IsNetworkOf c.args.graph.now c.in_ok-points.points.items c.deref-2.result.now c.in_ok-network.network c.in_ok-solved.solved
     c.in_ok-points.ensures.points c.in_ok-points.ensures.sound c.deref-2.ensures.value c.in_ok-network.ensures e.sizes e.meets e.tight e.root e.least in
     subst ArePositions (sym c.as_slice-potentials.ensures) (positions c.args.graph.now c.in_ok-points.points.items c.in_ok-network.network c.in_ok-solved.solved s)
 
 pub lines-requires-clause-timely : goal.lines-requires-clause-timely
 lines-requires-clause-timely c =
     let e = c.in_ok-solved.ensures in
-    let s = solution c.args.graph.now c.in_ok-points.points.items c.deref-2.result.now c.in_ok-network.network c.in_ok-solved.solved
+    let s = solution IsNetworkOf c.args.graph.now c.in_ok-points.points.items c.deref-2.result.now c.in_ok-network.network c.in_ok-solved.solved
     c.in_ok-points.ensures.points c.in_ok-points.ensures.sound c.deref-2.ensures.value c.in_ok-network.ensures e.sizes e.meets e.tight e.root e.least in
     let links : c.deref-5.result.now ≡ links_of c.args.graph.now c.in_ok-points.points.items
     = c.deref-5.ensures.value ∙ c.in_ok-links.ensures ∙ ap (links_of c.args.graph.now) c.deref.ensures.value in
@@ -48,14 +49,14 @@ lines-requires-clause-timely c =
 pub total-requires-clause-positions : goal.total-requires-clause-positions
 total-requires-clause-positions c =
     let e = c.in_ok-solved.ensures in
-    let s = solution c.args.graph.now c.in_ok-points.points.items c.deref-2.result.now c.in_ok-network.network c.in_ok-solved.solved
+    let s = solution IsNetworkOf c.args.graph.now c.in_ok-points.points.items c.deref-2.result.now c.in_ok-network.network c.in_ok-solved.solved
     c.in_ok-points.ensures.points c.in_ok-points.ensures.sound c.deref-2.ensures.value c.in_ok-network.ensures e.sizes e.meets e.tight e.root e.least in
     subst ArePositions (sym c.as_slice-potentials.ensures) (positions c.args.graph.now c.in_ok-points.points.items c.in_ok-network.network c.in_ok-solved.solved s)
 
 pub total-requires-clause-timely : goal.total-requires-clause-timely
 total-requires-clause-timely c =
     let e = c.in_ok-solved.ensures in
-    let s = solution c.args.graph.now c.in_ok-points.points.items c.deref-2.result.now c.in_ok-network.network c.in_ok-solved.solved
+    let s = solution IsNetworkOf c.args.graph.now c.in_ok-points.points.items c.deref-2.result.now c.in_ok-network.network c.in_ok-solved.solved
     c.in_ok-points.ensures.points c.in_ok-points.ensures.sound c.deref-2.ensures.value c.in_ok-network.ensures e.sizes e.meets e.tight e.root e.least in
     let links : c.deref-6.result.now ≡ links_of c.args.graph.now c.in_ok-points.points.items
     = c.deref-6.ensures.value ∙ c.in_ok-links.ensures ∙ ap (links_of c.args.graph.now) c.deref.ensures.value in
@@ -64,7 +65,7 @@ total-requires-clause-timely c =
 pub total-requires-clause-few : goal.total-requires-clause-few
 total-requires-clause-few c =
     let e = c.in_ok-solved.ensures in
-    let s = solution c.args.graph.now c.in_ok-points.points.items c.deref-2.result.now c.in_ok-network.network c.in_ok-solved.solved
+    let s = solution IsNetworkOf c.args.graph.now c.in_ok-points.points.items c.deref-2.result.now c.in_ok-network.network c.in_ok-solved.solved
     c.in_ok-points.ensures.points c.in_ok-points.ensures.sound c.deref-2.ensures.value c.in_ok-network.ensures e.sizes e.meets e.tight e.root e.least in
     let links : c.deref-6.result.now ≡ links_of c.args.graph.now c.in_ok-points.points.items
     = c.deref-6.ensures.value ∙ c.in_ok-links.ensures ∙ ap (links_of c.args.graph.now) c.deref.ensures.value in
@@ -73,14 +74,14 @@ total-requires-clause-few c =
 pub bound-requires-clause-leasts : goal.bound-requires-clause-leasts
 bound-requires-clause-leasts c =
     let e = c.in_ok-solved.ensures in
-    let s = solution c.args.graph.now c.in_ok-points.points.items c.deref-2.result.now c.in_ok-network.network c.in_ok-solved.solved
+    let s = solution IsNetworkOf c.args.graph.now c.in_ok-points.points.items c.deref-2.result.now c.in_ok-network.network c.in_ok-solved.solved
     c.in_ok-points.ensures.points c.in_ok-points.ensures.sound c.deref-2.ensures.value c.in_ok-network.ensures e.sizes e.meets e.tight e.root e.least in
     subst (λ (arcs : List Arc). All (λ a. IsWithin (2 ^ 30) a.least) arcs) (sym c.as_slice-arcs.ensures) (leasts c.args.graph.now c.in_ok-points.points.items c.in_ok-network.network c.in_ok-solved.solved s)
 
 pub bound-requires-clause-links : goal.bound-requires-clause-links
 bound-requires-clause-links c =
     let e = c.in_ok-solved.ensures in
-    let s = solution c.args.graph.now c.in_ok-points.points.items c.deref-2.result.now c.in_ok-network.network c.in_ok-solved.solved
+    let s = solution IsNetworkOf c.args.graph.now c.in_ok-points.points.items c.deref-2.result.now c.in_ok-network.network c.in_ok-solved.solved
     c.in_ok-points.ensures.points c.in_ok-points.ensures.sound c.deref-2.ensures.value c.in_ok-network.ensures e.sizes e.meets e.tight e.root e.least in
     let links : c.deref-8.result.now ≡ links_of c.args.graph.now c.in_ok-points.points.items
     = c.deref-8.ensures.value ∙ c.in_ok-links.ensures ∙ ap (links_of c.args.graph.now) c.deref.ensures.value in
@@ -89,7 +90,7 @@ bound-requires-clause-links c =
 pub overflow_cast-result : goal.overflow_cast-result
 overflow_cast-result c =
     let e = c.in_ok-solved.ensures in
-    let s = solution c.args.graph.now c.in_ok-points.points.items c.deref-2.result.now c.in_ok-network.network c.in_ok-solved.solved
+    let s = solution IsNetworkOf c.args.graph.now c.in_ok-points.points.items c.deref-2.result.now c.in_ok-network.network c.in_ok-solved.solved
     c.in_ok-points.ensures.points c.in_ok-points.ensures.sound c.deref-2.ensures.value c.in_ok-network.ensures e.sizes e.meets e.tight e.root e.least in
     let links : c.deref-6.result.now ≡ links_of c.args.graph.now c.in_ok-points.points.items
     = c.deref-6.ensures.value ∙ c.in_ok-links.ensures ∙ ap (links_of c.args.graph.now) c.deref.ensures.value in
@@ -107,7 +108,7 @@ overflow_cast-result c =
 pub returns-clause-aligned : goal.returns-clause-aligned
 returns-clause-aligned c =
     let e = c.in_ok-solved.ensures in
-    let s = solution c.args.graph.now c.in_ok-points.points.items c.deref-2.result.now c.in_ok-network.network c.in_ok-solved.solved
+    let s = solution IsNetworkOf c.args.graph.now c.in_ok-points.points.items c.deref-2.result.now c.in_ok-network.network c.in_ok-solved.solved
     c.in_ok-points.ensures.points c.in_ok-points.ensures.sound c.deref-2.ensures.value c.in_ok-network.ensures e.sizes e.meets e.tight e.root e.least in
     let links : c.deref-6.result.now ≡ links_of c.args.graph.now c.in_ok-points.points.items
     = c.deref-6.ensures.value ∙ c.in_ok-links.ensures ∙ ap (links_of c.args.graph.now) c.deref.ensures.value in

@@ -7,7 +7,8 @@ use Rattle.min_cost_flow.specs.declared.network.Arc.{Arc}
 use Rattle.min_cost_flow.specs.contracts.network.ArcOrd.TheImpl.Laws.{total-law, matches_eq-law}
 use Rattle.alignment.specs.Links.{arc_along, arc_from_root, arcs_to_root, links_of}
 use Rattle.alignment.proofs.PlaceLists.{zero_first}
-use Rattle.alignment.proofs.NetworkArcs.{order, arcs_are}
+use Rattle.alignment.proofs.NetworkArcs.{arcs_are}
+use Rattle.alignment.proofs.SortedArcLaws.{order}
 use Rattle.alignment.proofs.network.arcs.Goals as goal
 
 pub add_from_root-requires-clause-some : goal.add_from_root-requires-clause-some

@@ -2,7 +2,7 @@ use Rattle.std.proofs.Common.{◌∙◌, ap, sym, subst, map, length, arith, ref
 use Rattle.std.specs.List.{range_with_len}
 use Rattle.alignment.specs.Networks.{AreNetworkArcs}
 use Rattle.alignment.specs.Links.{need_at}
-use Rattle.alignment.proofs.NeedFacts.{needs_are}
+use Rattle.alignment.proofs.NetworkFacts.{needs_are}
 use Rattle.alignment.proofs.PlaceLists.{links_few}
 use Rattle.alignment.proofs.network.network.Goals as goal
 

@@ -14,12 +14,12 @@ use Rattle.alignment.specs.Mirrors.{mirror_link, line_of_link}
 use Rattle.alignment.specs.Networks.{ArePoints}
 use Rattle.alignment.specs.Numbered.{entries_by}
 use Rattle.alignment.specs.Places.{ArePositions, delay_of, places_of}
-use Rattle.alignment.specs.SharedNetworks.{shared_points, point_entry}
+use Rattle.alignment.specs.SharedNetworks.{shared_points, point_entry, IsSharedNetworkOf}
 use Rattle.alignment.specs.Values.{port}
 use Rattle.alignment.specs.declared.links.Link.{Link}
 use Rattle.alignment.proofs.SharedAlignFacts.{positions, node_positions, timely, few_links, links_named, leasts, bound_of, is_aligned_shared_as}
 use Rattle.alignment.proofs.SharedNetworkFacts.{shared_network_is_one}
-use Rattle.alignment.proofs.SharedSolutionFacts.{shared_solution}
+use Rattle.alignment.proofs.Solutions.{solution}
 use Rattle.alignment.proofs.shared.align_shared.Goals as goal
 
 pub solve-requires : goal.solve-requires
@@ -30,7 +30,7 @@ solve-requires c =
 pub places-requires-clause-positions : goal.places-requires-clause-positions
 places-requires-clause-positions c =
     let e = c.in_ok-solved.ensures in
-    let s = shared_solution c.args.graph.now c.in_ok-points.points.items c.deref-6.result.now c.in_ok-network.network c.in_ok-solved.solved
+    let s = solution IsSharedNetworkOf c.args.graph.now c.in_ok-points.points.items c.deref-6.result.now c.in_ok-network.network c.in_ok-solved.solved
     c.in_ok-points.ensures.points c.in_ok-points.ensures.sound c.deref-6.ensures.value c.in_ok-network.ensures e.sizes e.meets e.tight e.root e.least in
     let count : c.len.result ≡ length c.in_ok-points.points.items = omega (arith, c.len.ensures, c.in_ok-points.points.ok.0) in
     let nodes : take c.len.result c.as_slice-potentials.result.now ≡ take (length c.in_ok-points.points.items) c.in_ok-solved.solved.potential = λ i. take (count i) (c.as_slice-potentials.ensures i) in
@@ -39,14 +39,14 @@ places-requires-clause-positions c =
 pub lines-requires-clause-positions : goal.lines-requires-clause-positions
 lines-requires-clause-positions c =
     let e = c.in_ok-solved.ensures in
-    let s = shared_solution c.args.graph.now c.in_ok-points.points.items c.deref-6.result.now c.in_ok-network.network c.in_ok-solved.solved
+    let s = solution IsSharedNetworkOf c.args.graph.now c.in_ok-points.points.items c.deref-6.result.now c.in_ok-network.network c.in_ok-solved.solved
     c.in_ok-points.ensures.points c.in_ok-points.ensures.sound c.deref-6.ensures.value c.in_ok-network.ensures e.sizes e.meets e.tight e.root e.least in
     subst ArePositions (sym c.as_slice-potentials.ensures) (positions c.args.graph.now c.in_ok-points.points.items c.in_ok-network.network c.in_ok-solved.solved s)
 
 pub lines-requires-clause-timely : goal.lines-requires-clause-timely
 lines-requires-clause-timely c =
     let e = c.in_ok-solved.ensures in
-    let s = shared_solution c.args.graph.now c.in_ok-points.points.items c.deref-6.result.now c.in_ok-network.network c.in_ok-solved.solved
+    let s = solution IsSharedNetworkOf c.args.graph.now c.in_ok-points.points.items c.deref-6.result.now c.in_ok-network.network c.in_ok-solved.solved
     c.in_ok-points.ensures.points c.in_ok-points.ensures.sound c.deref-6.ensures.value c.in_ok-network.ensures e.sizes e.meets e.tight e.root e.least in
     let links : c.deref-14.result.now ≡ map (mirror_link c.args.graph.now c.in_ok-points.points.items) (values c.args.graph.now)
     = c.deref-14.ensures.value ∙ c.in_ok-links.ensures ∙ ap (λ ps. map (mirror_link c.args.graph.now ps) (values c.args.graph.now)) c.deref-4.ensures.value in
@@ -55,7 +55,7 @@ lines-requires-clause-timely c =
 pub lines-requires-clause-named : goal.lines-requires-clause-named
 lines-requires-clause-named c =
     let e = c.in_ok-solved.ensures in
-    let s = shared_solution c.args.graph.now c.in_ok-points.points.items c.deref-6.result.now c.in_ok-network.network c.in_ok-solved.solved
+    let s = solution IsSharedNetworkOf c.args.graph.now c.in_ok-points.points.items c.deref-6.result.now c.in_ok-network.network c.in_ok-solved.solved
     c.in_ok-points.ensures.points c.in_ok-points.ensures.sound c.deref-6.ensures.value c.in_ok-network.ensures e.sizes e.meets e.tight e.root e.least in
     let links : c.deref-14.result.now ≡ map (mirror_link c.args.graph.now c.in_ok-points.points.items) (values c.args.graph.now)
     = c.deref-14.ensures.value ∙ c.in_ok-links.ensures ∙ ap (λ ps. map (mirror_link c.args.graph.now ps) (values c.args.graph.now)) c.deref-4.ensures.value in
@@ -65,7 +65,7 @@ lines-requires-clause-named c =
 pub total-requires-clause-few : goal.total-requires-clause-few
 total-requires-clause-few c =
     let e = c.in_ok-solved.ensures in
-    let s = shared_solution c.args.graph.now c.in_ok-points.points.items c.deref-6.result.now c.in_ok-network.network c.in_ok-solved.solved
+    let s = solution IsSharedNetworkOf c.args.graph.now c.in_ok-points.points.items c.deref-6.result.now c.in_ok-network.network c.in_ok-solved.solved
     c.in_ok-points.ensures.points c.in_ok-points.ensures.sound c.deref-6.ensures.value c.in_ok-network.ensures e.sizes e.meets e.tight e.root e.least in
     let links : c.deref-15.result.now ≡ map (mirror_link c.args.graph.now c.in_ok-points.points.items) (values c.args.graph.now)
     = c.deref-15.ensures.value ∙ c.in_ok-links.ensures ∙ ap (λ ps. map (mirror_link c.args.graph.now ps) (values c.args.graph.now)) c.deref-4.ensures.value in
@@ -74,14 +74,14 @@ total-requires-clause-few c =
 pub total-requires-clause-positions : goal.total-requires-clause-positions
 total-requires-clause-positions c =
     let e = c.in_ok-solved.ensures in
-    let s = shared_solution c.args.graph.now c.in_ok-points.points.items c.deref-6.result.now c.in_ok-network.network c.in_ok-solved.solved
+    let s = solution IsSharedNetworkOf c.args.graph.now c.in_ok-points.points.items c.deref-6.result.now c.in_ok-network.network c.in_ok-solved.solved
     c.in_ok-points.ensures.points c.in_ok-points.ensures.sound c.deref-6.ensures.value c.in_ok-network.ensures e.sizes e.meets e.tight e.root e.least in
     subst ArePositions (sym c.as_slice-potentials.ensures) (positions c.args.graph.now c.in_ok-points.points.items c.in_ok-network.network c.in_ok-solved.solved s)
 
 pub total-requires-clause-timely : goal.total-requires-clause-timely
 total-requires-clause-timely c =
     let e = c.in_ok-solved.ensures in
-    let s = shared_solution c.args.graph.now c.in_ok-points.points.items c.deref-6.result.now c.in_ok-network.network c.in_ok-solved.solved
+    let s = solution IsSharedNetworkOf c.args.graph.now c.in_ok-points.points.items c.deref-6.result.now c.in_ok-network.network c.in_ok-solved.solved
     c.in_ok-points.ensures.points c.in_ok-points.ensures.sound c.deref-6.ensures.value c.in_ok-network.ensures e.sizes e.meets e.tight e.root e.least in
     let links : c.deref-15.result.now ≡ map (mirror_link c.args.graph.now c.in_ok-points.points.items) (values c.args.graph.now)
     = c.deref-15.ensures.value ∙ c.in_ok-links.ensures ∙ ap (λ ps. map (mirror_link c.args.graph.now ps) (values c.args.graph.now)) c.deref-4.ensures.value in
@@ -90,14 +90,14 @@ total-requires-clause-timely c =
 pub bound-requires-clause-leasts : goal.bound-requires-clause-leasts
 bound-requires-clause-leasts c =
     let e = c.in_ok-solved.ensures in
-    let s = shared_solution c.args.graph.now c.in_ok-points.points.items c.deref-6.result.now c.in_ok-network.network c.in_ok-solved.solved
+    let s = solution IsSharedNetworkOf c.args.graph.now c.in_ok-points.points.items c.deref-6.result.now c.in_ok-network.network c.in_ok-solved.solved
     c.in_ok-points.ensures.points c.in_ok-points.ensures.sound c.deref-6.ensures.value c.in_ok-network.ensures e.sizes e.meets e.tight e.root e.least in
     subst (λ (arcs : List Arc). All (λ a. IsWithin (2 ^ 30) a.least) arcs) (sym c.as_slice-arcs.ensures) (leasts c.args.graph.now c.in_ok-points.points.items c.in_ok-network.network c.in_ok-solved.solved s)
 
 pub bound-requires-clause-links : goal.bound-requires-clause-links
 bound-requires-clause-links c =
     let e = c.in_ok-solved.ensures in
-    let s = shared_solution c.args.graph.now c.in_ok-points.points.items c.deref-6.result.now c.in_ok-network.network c.in_ok-solved.solved
+    let s = solution IsSharedNetworkOf c.args.graph.now c.in_ok-points.points.items c.deref-6.result.now c.in_ok-network.network c.in_ok-solved.solved
     c.in_ok-points.ensures.points c.in_ok-points.ensures.sound c.deref-6.ensures.value c.in_ok-network.ensures e.sizes e.meets e.tight e.root e.least in
     let links : c.deref-17.result.now ≡ map (mirror_link c.args.graph.now c.in_ok-points.points.items) (values c.args.graph.now)
     = c.deref-17.ensures.value ∙ c.in_ok-links.ensures ∙ ap (λ ps. map (mirror_link c.args.graph.now ps) (values c.args.graph.now)) c.deref-4.ensures.value in
@@ -106,7 +106,7 @@ bound-requires-clause-links c =
 pub overflow_cast-result : goal.overflow_cast-result
 overflow_cast-result c =
     let e = c.in_ok-solved.ensures in
-    let s = shared_solution c.args.graph.now c.in_ok-points.points.items c.deref-6.result.now c.in_ok-network.network c.in_ok-solved.solved
+    let s = solution IsSharedNetworkOf c.args.graph.now c.in_ok-points.points.items c.deref-6.result.now c.in_ok-network.network c.in_ok-solved.solved
     c.in_ok-points.ensures.points c.in_ok-points.ensures.sound c.deref-6.ensures.value c.in_ok-network.ensures e.sizes e.meets e.tight e.root e.least in
     let links : c.deref-15.result.now ≡ map (mirror_link c.args.graph.now c.in_ok-points.points.items) (values c.args.graph.now)
     = c.deref-15.ensures.value ∙ c.in_ok-links.ensures ∙ ap (λ ps. map (mirror_link c.args.graph.now ps) (values c.args.graph.now)) c.deref-4.ensures.value in
@@ -124,7 +124,7 @@ overflow_cast-result c =
 pub returns-clause-aligned : goal.returns-clause-aligned
 returns-clause-aligned c =
     let e = c.in_ok-solved.ensures in
-    let s = shared_solution c.args.graph.now c.in_ok-points.points.items c.deref-6.result.now c.in_ok-network.network c.in_ok-solved.solved
+    let s = solution IsSharedNetworkOf c.args.graph.now c.in_ok-points.points.items c.deref-6.result.now c.in_ok-network.network c.in_ok-solved.solved
     c.in_ok-points.ensures.points c.in_ok-points.ensures.sound c.deref-6.ensures.value c.in_ok-network.ensures e.sizes e.meets e.tight e.root e.least in
     let links : c.deref-15.result.now ≡ map (mirror_link c.args.graph.now c.in_ok-points.points.items) (values c.args.graph.now)
     = c.deref-15.ensures.value ∙ c.in_ok-links.ensures ∙ ap (λ ps. map (mirror_link c.args.graph.now ps) (values c.args.graph.now)) c.deref-4.ensures.value in
