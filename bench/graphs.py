@@ -1,8 +1,12 @@
-"""A large graph for the scripts of this folder, and a folder for a program over the repository's crates."""
+"""A large graph for the scripts of this folder, a folder for a program over the repository's crates, and how many
+instructions a program takes."""
 
 import json
+import os
 import pathlib
+import re
 import shutil
+import subprocess
 
 TOP = pathlib.Path(__file__).resolve().parent.parent
 
@@ -55,6 +59,19 @@ def delays(at, latency, pairs):
     return [at[node] - at[source] - latency[source] for source, node in pairs]
 
 
+def below(names):
+    """The lines of crates.txt of these crates of the repository and of all that they stand on."""
+    lines = [line for line in (TOP / "crates.txt").read_text().splitlines() if ":" in line.split("#")[0]]
+    uses = {line.split(":")[0]: line.split(":")[1].split() for line in lines}
+    found, left = set(), list(names)
+    while left:
+        name = left.pop()
+        if name in uses and name not in found:
+            found.add(name)
+            left += uses[name]
+    return "".join(f"{line}\n" for line in lines if line.split(":")[0] in found)
+
+
 def build(room, crates, program, text):
     """The folder of a program over these crates, its text a file that is kept beside its script."""
     for name in [line.split(":")[0] for line in crates.splitlines()]:
@@ -66,3 +83,18 @@ def build(room, crates, program, text):
     shutil.copy(text, crate / "src" / "main.rt")
     (room / "crates.txt").write_text(crates)
     return crate
+
+
+def instructions(words, room, steps):
+    """The instructions of a whole command, and of each step of which a name is told, in callgrind's count."""
+    counts = os.path.join(room, "counts")
+    subprocess.run(["valgrind", "--tool=callgrind", f"--callgrind-out-file={counts}", *words], check=True,
+                   capture_output=True)
+    table = subprocess.run(["callgrind_annotate", "--inclusive=yes", "--threshold=100", counts], check=True,
+                           capture_output=True, text=True).stdout
+    found = {}
+    for count, name in re.findall(r"^ *([\d,]+) \([^)]*\) +(\S.*)$", table, re.M):
+        for step in ["PROGRAM TOTALS", *steps]:
+            if step in name and step not in found:
+                found[step] = int(count.replace(",", ""))
+    return found
