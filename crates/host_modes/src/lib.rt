@@ -26,3 +26,6 @@ mod reading;
 
 pub use asked::perform;
 pub use ends::{End, Outcome};
+pub use modes::check::judged;
+pub use reading::graphs::graph_under;
+pub use reading::plans::plan_under;

@@ -25,7 +25,7 @@ use plan_model::Plan;
 use std::alloc::Global;
 
 /// The verdict on a plan, as an end, and its line.
-fn judged(alloc: Global, graph: &Checked, plan: &Plan) -> Result<(End, Vec<u8>), End>
+pub fn judged(alloc: Global, graph: &Checked, plan: &Plan) -> Result<(End, Vec<u8>), End>
     ensures verdict { IfOk result (λ r. IsVerdict graph.now plan.now r.0) }
     ensures line { IfOk result (λ r. r.1.items ≡ verdict_line r.0) }
     ensures memory { IfErr result (λ end. end ≡ End.Memory) }

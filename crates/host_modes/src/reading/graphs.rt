@@ -53,7 +53,7 @@ fn checked(alloc: Global, graph: Graph) -> Result<Checked, End>
 }
 
 /// The sound graph under a name.
-pub(crate) fn graph_under<F: Folder>(
+pub fn graph_under<F: Folder>(
     alloc: Global,
     folder: &mut F,
     name: &str,

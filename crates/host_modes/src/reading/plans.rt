@@ -15,7 +15,7 @@ use plan_text::read;
 use std::alloc::Global;
 
 /// The plan that a name holds the text of.
-pub(crate) fn plan_under<F: Folder>(alloc: Global, folder: &mut F, name: &str) -> Result<Plan, End>
+pub fn plan_under<F: Folder>(alloc: Global, folder: &mut F, name: &str) -> Result<Plan, End>
     ensures held { F.held folder.new ≡ F.held folder.old }
     ensures ok { IfOk result (λ plan. FindsPlan name.now plan (F.held folder.old)) }
     ensures stops { IfErr result (Stops (IsTextEnd name.now (F.held folder.old)) (Rose (F.read_faults folder.old) (F.read_faults folder.new))) }
