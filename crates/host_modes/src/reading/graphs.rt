@@ -53,11 +53,7 @@ fn checked(alloc: Global, graph: Graph) -> Result<Checked, End>
 }
 
 /// The sound graph under a name.
-pub fn graph_under<F: Folder>(
-    alloc: Global,
-    folder: &mut F,
-    name: &str,
-) -> Result<Checked, End>
+pub fn graph_under<F: Folder>(alloc: Global, folder: &mut F, name: &str) -> Result<Checked, End>
     ensures held { F.held folder.new ≡ F.held folder.old }
     ensures ok { IfOk result (λ g. FindsGraph name.now g (F.held folder.old)) }
     ensures sound { IfOk result IsSound }
