@@ -2,8 +2,10 @@
 
 ghost use Rattle.std.specs.Prelude.{◌≡◌};
 
+use connections::Checked;
 use gh_outside::Folder;
 use host_modes::{End, graph_under, judged, plan_under};
+use plan_model::Plan;
 use plan_picture::picture;
 use std::alloc::Global;
 
@@ -15,18 +17,32 @@ pub(crate) enum Answer {
     Refused { end: End, line: Vec<u8> },
 }
 
-/// The picture of a graph without a plan.
-fn graph_drawn<F: Folder>(alloc: Global, folder: &mut F, graph: &str) -> Result<Answer, End>
-    ensures held { F.held folder.new ≡ F.held folder.old }
-{
-    let graph = graph_under(alloc, folder, graph)?;
-    match picture(alloc, &graph, None) {
+/// The picture of a graph, with its plan or without one.
+fn drawn_of(alloc: Global, graph: &Checked, plan: Option<&Plan>) -> Result<Answer, End> {
+    match picture(alloc, graph, plan) {
         Ok(text) => Ok(Answer::Picture(text)),
         Err(_) => Err(End::Memory),
     }
 }
 
 /// The picture of a graph with its plan, where that is certified.
+fn judged_of(alloc: Global, graph: &Checked, plan: &Plan) -> Result<Answer, End> {
+    let (end, line) = judged(alloc, graph, plan)?;
+    match end {
+        End::Done => drawn_of(alloc, graph, Some(plan)),
+        end => Ok(Answer::Refused { end, line }),
+    }
+}
+
+/// The picture of the graph under a name.
+fn graph_drawn<F: Folder>(alloc: Global, folder: &mut F, graph: &str) -> Result<Answer, End>
+    ensures held { F.held folder.new ≡ F.held folder.old }
+{
+    let graph = graph_under(alloc, folder, graph)?;
+    drawn_of(alloc, &graph, None)
+}
+
+/// The picture of the graph under a name with the plan under another.
 fn plan_drawn<F: Folder>(
     alloc: Global,
     folder: &mut F,
@@ -37,14 +53,7 @@ fn plan_drawn<F: Folder>(
 {
     let graph = graph_under(alloc, folder, graph)?;
     let plan = plan_under(alloc, folder, plan)?;
-    let (end, line) = judged(alloc, &graph, &plan)?;
-    if !matches!(end, End::Done) {
-        return Ok(Answer::Refused { end, line });
-    }
-    match picture(alloc, &graph, Some(&plan)) {
-        Ok(text) => Ok(Answer::Picture(text)),
-        Err(_) => Err(End::Memory),
-    }
+    judged_of(alloc, &graph, &plan)
 }
 
 /// What the words ask for, drawn. No file changes.
