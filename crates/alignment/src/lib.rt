@@ -29,8 +29,6 @@ mod placed;
 mod points;
 mod shared;
 mod shared_network;
-#[cfg(test)]
-mod tests;
 mod values;
 
 use crate::carried::{bound, carried};

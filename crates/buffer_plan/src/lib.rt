@@ -20,8 +20,6 @@ ghost use Rattle.plan_model.specs.Rules.{IsPeak};
 mod lives;
 mod orders;
 mod packing;
-#[cfg(test)]
-mod tests;
 
 use crate::orders::{homes_of, sort_by_value};
 use crate::packing::pack;

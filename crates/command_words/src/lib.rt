@@ -32,5 +32,3 @@ pub use modes::Request;
 pub use render::RenderRequest;
 pub use requests::request;
 
-#[cfg(test)]
-mod tests;

@@ -26,5 +26,3 @@ pub use checked::{Checked, Ends};
 pub use checks::check;
 pub use fault::GraphFault;
 
-#[cfg(test)]
-mod tests;

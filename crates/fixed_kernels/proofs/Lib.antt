@@ -11,5 +11,4 @@ pub mod MixerFacts
 pub mod HoldFacts
 pub mod FirFacts
 pub mod BiquadFacts
-pub mod TestTaps
 pub mod Examples

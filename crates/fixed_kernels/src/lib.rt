@@ -25,8 +25,6 @@ mod mixer;
 mod narrow;
 mod products;
 mod section;
-#[cfg(test)]
-mod tests;
 
 pub use biquad::Biquad;
 pub use fir::Fir;

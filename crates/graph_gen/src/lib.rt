@@ -19,5 +19,3 @@ mod samples;
 pub use graphs::graph_of;
 pub use samples::samples_of;
 
-#[cfg(test)]
-mod tests;

@@ -21,5 +21,3 @@ pub use fault::{Part, Place, RecordFault};
 pub use walk::read_graph;
 pub use write::write_graph;
 
-#[cfg(test)]
-mod tests;

@@ -26,8 +26,6 @@ mod nodes;
 mod reads;
 mod taken;
 mod tallies;
-#[cfg(test)]
-mod tests;
 
 use crate::grouped::lives_by;
 use crate::lined::with_lines;

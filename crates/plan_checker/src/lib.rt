@@ -27,8 +27,6 @@ mod path;
 mod peak;
 mod positions;
 mod tenants;
-#[cfg(test)]
-mod tests;
 mod verdicts;
 mod waves;
 

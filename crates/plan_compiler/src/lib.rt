@@ -26,8 +26,6 @@ ghost use Rattle.plan_model.specs.Rules.{IsPeak};
 ghost use Rattle.plan_model.specs.Schedules.{IsSchedule};
 
 mod shared;
-#[cfg(test)]
-mod tests;
 
 pub use crate::shared::compile_shared;
 use alignment::align;

@@ -18,8 +18,6 @@ mod number;
 mod printing;
 mod reading;
 mod rows;
-#[cfg(test)]
-mod tests;
 mod word;
 
 pub use fault::PlanFault;

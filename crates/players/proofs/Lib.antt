@@ -3,4 +3,3 @@ pub mod GatherFacts
 pub mod ScatterFacts
 pub mod ServeFacts
 pub mod PlayFacts
-pub mod TestFacts

@@ -1,4 +1,3 @@
 pub mod Reads
 pub mod Servers
 pub mod Plays
-pub mod Lone

@@ -24,5 +24,3 @@ pub use leaving::{Leaving, zeros};
 pub use part::Stage;
 pub use playing::{Player, SUB, Server};
 
-#[cfg(test)]
-mod tests;

@@ -7,4 +7,3 @@ pub mod KindFacts
 pub mod OrderSteps
 pub mod AnswerFacts
 pub mod Examples
-pub mod TestGraphs

@@ -30,8 +30,6 @@ pub mod laws;
 mod positions;
 mod routes;
 mod streams;
-#[cfg(test)]
-mod tests;
 
 use crate::evaluation::Evaluation;
 use crate::positions::{aligned, reaches};

@@ -16,7 +16,5 @@ mod depths;
 mod groups;
 mod live;
 mod modes;
-#[cfg(test)]
-mod tests;
 
 pub use modes::{by_waves, one_by_one, schedule};

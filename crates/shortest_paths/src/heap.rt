@@ -503,27 +503,3 @@ pub fn nearest(
     let last = List::from_slice(alloc, &search.last)?;
     Ok(Distances { least, last })
 }
-
-#[cfg(test)]
-mod tests {
-    use super::nearest;
-    use crate::edges::Edge;
-    use std::test::Fail;
-
-    // From `tail` to `head` at this cost.
-    fn edge(tail: u32, head: u32, cost: i64) -> Edge
-        ensures { result ≡ record { tail = tail; head = head; cost = cost } }
-    {
-        Edge { tail, head, cost }
-    }
-
-    #[test]
-    fn the_nearer_of_two_walks(rt: HostRuntime) -> Result<(), Fail> {
-        let alloc = rt.alloc();
-        let edges = [edge(0, 1, 2), edge(1, 2, 3), edge(0, 2, 9)];
-        let found = nearest(alloc, 3, &edges, 0)?;
-        assert_eq!(rt; found.least.as_slice(), [0, 2, 5].as_slice());
-        assert_eq!(rt; found.last.as_slice(), [None, Some(0), Some(1)].as_slice());
-        Ok(())
-    }
-}

@@ -29,5 +29,3 @@ pub use reading::{read_frames, read_head};
 pub use sample::{frame_bytes, is_size};
 pub use writing::{head_bytes, put_frames};
 
-#[cfg(test)]
-mod tests;

@@ -1,0 +1,2 @@
+pub mod LimiterFacts
+pub mod TapFacts
