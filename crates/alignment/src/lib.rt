@@ -65,7 +65,8 @@ pub struct Aligned {
 /// fails only for want of memory.
 pub fn align(alloc: Global, graph: &Checked) -> Result<Aligned, AllocError>
     ensures aligned { IfOk result (λ a. IsAligned graph.now a.at a.lines a.total a.arcs a.bound) }
-    ensures least_latency { IfOk result (λ a. (q : ℕ → ℕ) → IsAlignment graph.now q → position_in a.at (output_name graph.now) ≤ q (output_name graph.now)) }
+    ensures least_latency { IfOk result (λ a. (q : ℕ → ℕ) → IsAlignment graph.now q
+        → position_in a.at (output_name graph.now) ≤ q (output_name graph.now)) }
 {
     let points = points(alloc, graph)?;
     let links = links(alloc, graph, &points)?;

@@ -80,7 +80,8 @@ fn lines(
 /// memory.
 pub fn align_shared(alloc: Global, graph: &Checked) -> Result<AlignedShared, AllocError>
     ensures aligned { IfOk result (HasAlignedShared graph.now) }
-    ensures least_latency { IfOk result (λ a. (q : ℕ → ℕ) → IsAlignment graph.now q → position_in a.at (output_name graph.now) ≤ q (output_name graph.now)) }
+    ensures least_latency { IfOk result (λ a. (q : ℕ → ℕ) → IsAlignment graph.now q
+        → position_in a.at (output_name graph.now) ≤ q (output_name graph.now)) }
 {
     let points = points(alloc, graph)?;
     let connected = links(alloc, graph, &points)?;

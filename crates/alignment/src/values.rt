@@ -57,7 +57,8 @@ pub(crate) fn values(
 pub(crate) fn place_of(values: &[Value], value: &Value) -> Option<u32>
     requires rising { IsSorted value_order values.now }
     requires few { length values.now ≤ 2 ^ 13 }
-    ensures { MatchOption result (Contains values.now value.now → ⊥) (λ k. (k < length values.now) × ((d : Value) → slice_index_or values.now k d ≡ value.now)) }
+    ensures { MatchOption result (Contains values.now value.now → ⊥)
+        (λ k. (k < length values.now) × ((d : Value) → slice_index_or values.now k d ≡ value.now)) }
 {
     match values.binary_search(value) {
         Ok(place) => Some(place as u32),

@@ -31,4 +31,3 @@ pub use fault::WordsFault;
 pub use modes::Request;
 pub use render::RenderRequest;
 pub use requests::request;
-

@@ -25,4 +25,3 @@ mod nodes;
 pub use checked::{Checked, Ends};
 pub use checks::check;
 pub use fault::GraphFault;
-

@@ -131,7 +131,8 @@ fn step_rows(
     ensures tails { AreStepped section.now tails.old frames ins.now tails.new }
     ensures values { (c t : ℕ) → c < length tails.old → t < frames →
         slice_index_or outs.new (c * frames + t) (pos 0)
-        ≡ next_out section.now (tail_upto section.now (tail_at tails.old c) (frame_in frames ins.now c) t) (slice_index_or (frame_in frames ins.now c) t (pos 0)) }
+        ≡ next_out section.now (tail_upto section.now (tail_at tails.old c) (frame_in frames ins.now c) t)
+        (slice_index_or (frame_in frames ins.now c) t (pos 0)) }
 {
     for c in 0..tails.len() {
         let from = c * frames;

@@ -100,7 +100,8 @@ fn mix_rows(
     requires fits { (o t : ℕ) → o < count → t < frames →
         unsigned_abs (rounded (products (gains_to wide gains.now o) (planar_frame wide frames ins.now t)) 16) ≤ 2 ^ 46 }
     ensures { (o t : ℕ) → o < count → t < frames →
-        slice_index_or outs.new (o * frames + t) (pos 0) ≡ rounded (products (gains_to wide gains.now o) (planar_frame wide frames ins.now t)) 16 }
+        slice_index_or outs.new (o * frames + t) (pos 0)
+        ≡ rounded (products (gains_to wide gains.now o) (planar_frame wide frames ins.now t)) 16 }
 {
     for o in 0..count {
         let from = o * frames;
@@ -121,7 +122,8 @@ fn mix_row(row: &[i32], most: u64, frames: usize, ins: &[i64], outs: &mut [i64])
     requires ins { length ins.now ≡ length row.now * frames }
     requires within { (k : ℕ) → k < length ins.now → unsigned_abs (slice_index_or ins.now k (pos 0)) ≤ most }
     requires outs { length outs.old ≡ frames }
-    requires fits { (t : ℕ) → t < frames → unsigned_abs (rounded (products row.now (planar_frame (length row.now) frames ins.now t)) 16) ≤ 2 ^ 46 }
+    requires fits { (t : ℕ) → t < frames
+        → unsigned_abs (rounded (products row.now (planar_frame (length row.now) frames ins.now t)) 16) ≤ 2 ^ 46 }
     ensures { (t : ℕ) → t < frames →
         slice_index_or outs.new t (pos 0) ≡ rounded (products row.now (planar_frame (length row.now) frames ins.now t)) 16 }
 {
@@ -159,7 +161,8 @@ fn add_rows(row: &[i32], most: u64, frames: usize, ins: &[i64], outs: &mut [i64]
     requires small { weight row.now * most ≤ 2 ^ 62 }
     requires outs { length outs.old ≡ frames }
     requires none { (t : ℕ) → t < frames → slice_index_or outs.old t (pos 0) ≡ pos 0 }
-    ensures values { (t : ℕ) → t < frames → slice_index_or outs.new t (pos 0) ≡ products row.now (planar_frame (length row.now) frames ins.now t) }
+    ensures values { (t : ℕ) → t < frames
+        → slice_index_or outs.new t (pos 0) ≡ products row.now (planar_frame (length row.now) frames ins.now t) }
     ensures sizes { (t : ℕ) → t < frames → unsigned_abs (slice_index_or outs.new t (pos 0)) ≤ 2 ^ 62 }
 {
     for c in 0..row.len() {
@@ -197,7 +200,8 @@ fn mix_row_wide(row: &[i32], frames: usize, ins: &[i64], outs: &mut [i64])
     requires few { length row.now ≤ 32 }
     requires ins { length ins.now ≡ length row.now * frames }
     requires outs { length outs.old ≡ frames }
-    requires fits { (t : ℕ) → t < frames → unsigned_abs (rounded (products row.now (planar_frame (length row.now) frames ins.now t)) 16) ≤ 2 ^ 46 }
+    requires fits { (t : ℕ) → t < frames
+        → unsigned_abs (rounded (products row.now (planar_frame (length row.now) frames ins.now t)) 16) ≤ 2 ^ 46 }
     ensures { (t : ℕ) → t < frames →
         slice_index_or outs.new t (pos 0) ≡ rounded (products row.now (planar_frame (length row.now) frames ins.now t)) 16 }
 {

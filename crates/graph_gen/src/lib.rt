@@ -18,4 +18,3 @@ mod samples;
 
 pub use graphs::graph_of;
 pub use samples::samples_of;
-

@@ -53,7 +53,8 @@ pub fn run<T: Threads + Sync, F: Folder, R: Sink>(
 
     // What is left of the files: the output whole, or a first part of it; nothing else changes, and nothing at all but
     // at these two ends and where a block could not be read.
-    ensures done { result.end ≡ End.Done → IfRender (request_of (map string_bytes words.items)) (λ q. IsWritten q (F.held folder.old) (F.held folder.new)) }
+    ensures done { result.end ≡ End.Done
+        → IfRender (request_of (map string_bytes words.items)) (λ q. IsWritten q (F.held folder.old) (F.held folder.new)) }
     ensures begun { IfRender (request_of (map string_bytes words.items)) (λ q. IsBegun q (F.held folder.old) (F.held folder.new)) }
     ensures kept { KeepsFiles (request_of (map string_bytes words.items)) (F.held folder.old) (F.held folder.new) }
     ensures untouched { MayHaveBegun result.end result.plan ⊎ (F.held folder.new ≡ F.held folder.old) }
@@ -61,13 +62,15 @@ pub fn run<T: Threads + Sync, F: Folder, R: Sink>(
     // The plan that is handed back, and what the report has gained: the text of that plan, or what is said of it. A
     // plan that was compiled is certified and has the least latency, delay and channels; and so has one that is
     // judged yes.
-    ensures answered { IsAnswered (request_of (map string_bytes words.items)) (F.held folder.old) result.end result.plan (R.bytes report.old) (R.bytes report.new) }
+    ensures answered { IsAnswered (request_of (map string_bytes words.items)) (F.held folder.old) result.end result.plan
+        (R.bytes report.old) (R.bytes report.new) }
 
     // The engine that is handed back: it keeps the graph and that plan, and stands for all frames of the input and of
     // the silence after them, or of the demonstration; where a block could not be read, for the first of them, and
     // the output holds the head and just those of these that are kept; where a write failed, for the first of them
     // too, and the output holds what it held or a first part of what these make.
-    ensures played { IsPlayed (request_of (map string_bytes words.items)) (F.held folder.old) (F.held folder.new) result.end result.plan result.engine }
+    ensures played { IsPlayed (request_of (map string_bytes words.items)) (F.held folder.old)
+        (F.held folder.new) result.end result.plan result.engine }
 
     // Why it ended: by what the files hold, unless a call of the outside failed or there was no memory.
     ensures cause { IsCaused (request_of (map string_bytes words.items)) (F.held folder.old)
@@ -76,7 +79,8 @@ pub fn run<T: Threads + Sync, F: Folder, R: Sink>(
 
     // And so it ends exactly as the files say, if no call of the outside fails and there is memory.
     ensures exact { (end : AnyEnd) → IsToldEnd (request_of (map string_bytes words.items)) (F.held folder.old) end
-        → (Rose (F.read_faults folder.old) (F.read_faults folder.new) → ⊥) → (Rose (F.write_faults folder.old) (F.write_faults folder.new) → ⊥)
+        → (Rose (F.read_faults folder.old) (F.read_faults folder.new) → ⊥)
+        → (Rose (F.write_faults folder.old) (F.write_faults folder.new) → ⊥)
         → (Rose (R.faults report.old) (R.faults report.new) → ⊥)
         → (plain result.end ≡ plain end) ⊎ (result.end ≡ End.Memory) }
 

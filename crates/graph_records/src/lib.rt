@@ -20,4 +20,3 @@ mod write;
 pub use fault::{Part, Place, RecordFault};
 pub use walk::read_graph;
 pub use write::write_graph;
-

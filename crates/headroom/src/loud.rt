@@ -26,7 +26,8 @@ pub struct TooLoud {
 /// The first channel of one side whose bound passes the limit.
 fn loud_on(uid: Uid, side: Side, bounds: &[u64]) -> Option<TooLoud>
     requires { length bounds.now ≤ 2 ^ 32 }
-    ensures { MatchOption result (AreBelow bounds.now) (λ loud. (loud.uid ≡ uid) × (loud.side ≡ side) × IsFirstAbove bounds.now loud.channel loud.bound) }
+    ensures { MatchOption result (AreBelow bounds.now) (λ loud. (loud.uid ≡ uid) × (loud.side ≡ side)
+        × IsFirstAbove bounds.now loud.channel loud.bound) }
 {
     for channel in 0..bounds.len() {
         if bounds[channel] > LIMIT {

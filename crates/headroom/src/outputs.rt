@@ -87,7 +87,8 @@ fn at_most(alloc: Global, bounds: &[u64], threshold: u64) -> Result<List<u64>, A
 fn mixed(alloc: Global, gains: &[i32], bounds: &[u64], outs: u32) -> Result<List<u64>, AllocError>
     requires few { length bounds.now ≤ 32 }
     requires gains { length gains.now ≡ length bounds.now * outs }
-    ensures { IfOk result (λ v. v ≡ map (λ o. kept (rounded_nat (weighed (gains_to (length bounds.now) gains.now o) bounds.now) 16)) (range_with_len 0 outs)) }
+    ensures { IfOk result (λ v. v
+        ≡ map (λ o. kept (rounded_nat (weighed (gains_to (length bounds.now) gains.now o) bounds.now) 16)) (range_with_len 0 outs)) }
 {
     let ins = bounds.len();
     let mut mixed = List::new(alloc);

@@ -12,7 +12,14 @@ use std::alloc::{AllocError, Global};
 
 /// The life of a value that is read once.
 fn alone(read: &Read) -> Life
-    ensures { result ≡ record { uid = read.now.uid; channel = read.now.channel; born = read.now.born; dies = read.now.wave; reader = Some read.now.reader } }
+    ensures { result ≡
+        record {
+          uid = read.now.uid;
+          channel = read.now.channel;
+          born = read.now.born;
+          dies = read.now.wave;
+          reader = Some read.now.reader;
+        } }
 {
     Life {
         uid: read.uid,

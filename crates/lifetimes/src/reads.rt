@@ -32,7 +32,8 @@ pub(crate) fn reads(
     node_waves: &[u32],
 ) -> Result<Vec<Read>, AllocError>
     requires { length node_waves.now ≡ length graph.now.nodes }
-    ensures reads { IfOk result (λ v. (waves : List Wave) → node_waves.now ≡ map (λ n. wave_of waves n.uid.0) graph.now.nodes → v.items ≡ reads_in graph.now waves) }
+    ensures reads { IfOk result (λ v. (waves : List Wave) → node_waves.now ≡ map (λ n. wave_of waves n.uid.0) graph.now.nodes
+        → v.items ≡ reads_in graph.now waves) }
     ensures sound { IfOk result (λ _. IsSound graph.now) }
 {
     let mut reads = Vec::new(alloc);

@@ -53,7 +53,8 @@ fn take(free: &mut HashMap<Turn, u32>, turn: Turn) -> bool
 /// The values that take over a buffer in place: as many of a node's as die in its wave with it as their sole reader.
 pub(crate) fn takers(alloc: Global, lives: &[Life]) -> Result<Vec<Life>, AllocError>
     requires { length lives.now ≤ 16384 }
-    ensures taken { IfOk result (λ v. (s a : ℕ) → count_by (is_born_of s a) v.items ≡ min (count_by (is_born_of s a) lives.now) (count_by (is_freed s a) lives.now)) }
+    ensures taken { IfOk result (λ v. (s a : ℕ)
+        → count_by (is_born_of s a) v.items ≡ min (count_by (is_born_of s a) lives.now) (count_by (is_freed s a) lives.now)) }
     ensures among { IfOk result (λ v. All (Contains lives.now) v.items) }
     ensures few { IfOk result (λ v. length v.items ≤ length lives.now) }
 {

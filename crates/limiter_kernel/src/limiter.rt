@@ -159,7 +159,8 @@ fn limit_rows(lines: &mut [Past], bounds: &[u64], gains: &[u64], ins: &[i64], ou
     ensures lines { (c : ℕ) → c < length lines.old → slice_index_or lines.new c []
         ≡ drop (length gains.now) (slice_index_or lines.old c [] ++ frame_in (length gains.now) ins.now c) }
     ensures values { (c : ℕ) → c < length lines.old →
-        AreLimited (slice_index_or lines.old c []) (frame_in (length gains.now) ins.now c) gains.now (frame_in (length gains.now) outs.new c) }
+        AreLimited (slice_index_or lines.old c []) (frame_in (length gains.now) ins.now c) gains.now
+        (frame_in (length gains.now) outs.new c) }
 {
     let frames = gains.len();
     for c in 0..lines.len() {

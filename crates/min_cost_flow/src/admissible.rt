@@ -49,7 +49,8 @@ fn is_open(net: &Network, walks: &Walks, is_on_path: &[bool], index: u32) -> boo
     requires marks { length is_on_path.now ≡ net.now.points }
     requires index { index < length walks.now.residual.edges.items }
 
-    ensures { IsTrue result → (v : ℕ) → LeavesAt walks.now.residual.edges.items v index → IsAdmissibleAt net.now.arcs (potential_of walks.now.search.numbers.items) v index }
+    ensures { IsTrue result → (v : ℕ) → LeavesAt walks.now.residual.edges.items v index
+        → IsAdmissibleAt net.now.arcs (potential_of walks.now.search.numbers.items) v index }
 {
     let edge = walks.residual.edges[index as usize];
     if (index as usize) >= net.arcs.len() || is_on_path[edge.head as usize] {
@@ -111,11 +112,14 @@ impl Trail {
         requires ready { HasPotentials net.now walks.now }
         requires trail { IsTrail net.now walks.now self.old }
         requires at { at < net.now.points }
-        requires path { (from : ℕ) × IsAdmissiblePath net.now.arcs (potential_of walks.now.search.numbers.items) from self.old.path.items at }
+        requires path { (from : ℕ)
+            × IsAdmissiblePath net.now.arcs (potential_of walks.now.search.numbers.items) from self.old.path.items at }
 
         ensures trail { IsTrail net.now walks.now self.new }
         ensures inside { (to : ℕ) → result ≡ Some to → to < net.now.points }
-        ensures path { (from to : ℕ) → result ≡ Some to → IsAdmissiblePath net.now.arcs (potential_of walks.now.search.numbers.items) from self.old.path.items at → IsAdmissiblePath net.now.arcs (potential_of walks.now.search.numbers.items) from self.new.path.items to }
+        ensures path { (from to : ℕ) → result ≡ Some to
+            → IsAdmissiblePath net.now.arcs (potential_of walks.now.search.numbers.items) from self.old.path.items at
+            → IsAdmissiblePath net.now.arcs (potential_of walks.now.search.numbers.items) from self.new.path.items to }
         ensures shorter { length self.new.path.items ≤ length self.old.path.items }
     {
         self.is_on_path[at as usize] = false;
@@ -132,11 +136,14 @@ impl Trail {
         requires ready { HasPotentials net.now walks.now }
         requires trail { IsTrail net.now walks.now self.old }
         requires at { at < net.now.points }
-        requires path { (from : ℕ) × IsAdmissiblePath net.now.arcs (potential_of walks.now.search.numbers.items) from self.old.path.items at }
+        requires path { (from : ℕ)
+            × IsAdmissiblePath net.now.arcs (potential_of walks.now.search.numbers.items) from self.old.path.items at }
 
         ensures trail { OnOk result (IsTrail net.now walks.now self.new) }
         ensures inside { IfOk result (λ next. (to : ℕ) → next ≡ Some to → to < net.now.points) }
-        ensures path { IfOk result (λ next. (from to : ℕ) → next ≡ Some to → IsAdmissiblePath net.now.arcs (potential_of walks.now.search.numbers.items) from self.old.path.items at → IsAdmissiblePath net.now.arcs (potential_of walks.now.search.numbers.items) from self.new.path.items to) }
+        ensures path { IfOk result (λ next. (from to : ℕ) → next ≡ Some to
+            → IsAdmissiblePath net.now.arcs (potential_of walks.now.search.numbers.items) from self.old.path.items at
+            → IsAdmissiblePath net.now.arcs (potential_of walks.now.search.numbers.items) from self.new.path.items to) }
         ensures longer { OnOk result (length self.new.path.items ≤ length self.old.path.items + 1) }
     {
         self.is_on_path[at as usize] = true;
@@ -165,7 +172,8 @@ impl Trail {
 
         ensures trail { OnOk result (IsTrail net.now walks.now self.new) }
         ensures deficit { IfOk result (λ found. (to : ℕ) → found ≡ Some to → (to < net.now.points) × (pos 0 <ℤ number_of unmet.now to)) }
-        ensures path { IfOk result (λ found. (to : ℕ) → found ≡ Some to → IsAdmissiblePath net.now.arcs (potential_of walks.now.search.numbers.items) from self.new.path.items to) }
+        ensures path { IfOk result (λ found. (to : ℕ) → found ≡ Some to
+            → IsAdmissiblePath net.now.arcs (potential_of walks.now.search.numbers.items) from self.new.path.items to) }
         ensures short { OnOk result (length self.new.path.items ≤ 2 ^ 17) }
     {
         self.path.clear();
@@ -188,12 +196,17 @@ impl Trail {
         requires ready { HasPotentials net.now walks.now }
         requires trail { IsTrail net.now walks.now self.old }
         requires each { length flow.old ≡ length net.now.arcs }
-        requires path { (from : ℕ) × (to : ℕ) × IsAdmissiblePath net.now.arcs (potential_of walks.now.search.numbers.items) from self.old.path.items to }
+        requires path { (from : ℕ) × (to : ℕ)
+            × IsAdmissiblePath net.now.arcs (potential_of walks.now.search.numbers.items) from self.old.path.items to }
         requires room { (k : ℕ) → slice_index flow.old k + units * length self.old.path.items < 2 ^ 63 }
 
         ensures trail { IsTrail net.now walks.now self.new }
-        ensures sent { (from to : ℕ) → IsAdmissiblePath net.now.arcs (potential_of walks.now.search.numbers.items) from self.old.path.items to → (v : ℕ) → net_of net.now.arcs flow.new v +ℤ pos (units_at units from v) ≡ net_of net.now.arcs flow.old v +ℤ pos (units_at units to v) }
-        ensures tight { IsTight net.now.arcs flow.old (potential_of walks.now.search.numbers.items) → IsTight net.now.arcs flow.new (potential_of walks.now.search.numbers.items) }
+        ensures sent { (from to : ℕ)
+            → IsAdmissiblePath net.now.arcs (potential_of walks.now.search.numbers.items) from self.old.path.items to
+            → (v : ℕ) → net_of net.now.arcs flow.new v +ℤ pos (units_at units from v)
+            ≡ net_of net.now.arcs flow.old v +ℤ pos (units_at units to v) }
+        ensures tight { IsTight net.now.arcs flow.old (potential_of walks.now.search.numbers.items)
+            → IsTight net.now.arcs flow.new (potential_of walks.now.search.numbers.items) }
         ensures bound { (k : ℕ) → slice_index flow.new k ≤ slice_index flow.old k + units * length self.old.path.items }
     {
         while let Some(index) = self.path.pop() {

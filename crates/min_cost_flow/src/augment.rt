@@ -70,7 +70,8 @@ fn augment_reached(net: &Network, flow: &mut [u64], unmet: &mut [i64], walks: &W
     ensures meeting { IsMeeting net.now flow.new unmet.new }
     ensures tight { IsTight net.now.arcs flow.new (potential_of walks.now.search.numbers.items) }
     ensures no_more { wanted unmet.new ≤ wanted unmet.old }
-    ensures fewer { IsSearchOf net.now flow.old walks.now.from walks.now.residual walks.now.search → number_of unmet.old walks.now.from <ℤ pos 0 → pos 0 <ℤ number_of unmet.old to → wanted unmet.new < wanted unmet.old }
+    ensures fewer { IsSearchOf net.now flow.old walks.now.from walks.now.residual walks.now.search
+        → number_of unmet.old walks.now.from <ℤ pos 0 → pos 0 <ℤ number_of unmet.old to → wanted unmet.new < wanted unmet.old }
 {
     let from = walks.from as usize;
     if is_unmet_at_both(unmet, from, to as usize) {
@@ -92,7 +93,9 @@ fn augment(net: &Network, flow: &mut [u64], unmet: &mut [i64], walks: &Walks, to
     ensures meeting { IsMeeting net.now flow.new unmet.new }
     ensures tight { IsTight net.now.arcs flow.new (potential_of walks.now.search.numbers.items) }
     ensures no_more { wanted unmet.new ≤ wanted unmet.old }
-    ensures fewer { IsSearchOf net.now flow.old walks.now.from walks.now.residual walks.now.search → number_of unmet.old walks.now.from <ℤ pos 0 → pos 0 <ℤ number_of unmet.old to → IsLinked walks.now.search.last.items to → wanted unmet.new < wanted unmet.old }
+    ensures fewer { IsSearchOf net.now flow.old walks.now.from walks.now.residual walks.now.search
+        → number_of unmet.old walks.now.from <ℤ pos 0 → pos 0 <ℤ number_of unmet.old to → IsLinked walks.now.search.last.items to
+        → wanted unmet.new < wanted unmet.old }
 {
     if is_reached(&walks.search.last, to as usize) {
         augment_reached(net, flow, unmet, walks, to);

@@ -59,7 +59,10 @@ pub(crate) fn search_from(
     ensures ready { OnOk result (IsReady net.now flow.now walks.new) }
     ensures start { OnOk result (number_of walks.new.search.numbers.items from ≡ pos 0) }
     ensures search { OnOk result (IsSearchOf net.now flow.now from walks.new.residual walks.new.search) }
-    ensures stop { IfOk result (λ stop. MatchOption stop ((v : ℕ) → v < net.now.points → v ≢ from → IsLinked walks.new.search.last.items v) (λ v. (v < net.now.points) × (pos 0 <ℤ number_of wanted.now v) × (v ≢ from → IsLinked walks.new.search.last.items v))) }
+    ensures stop { IfOk result (λ stop. MatchOption stop
+        ((v : ℕ) → v < net.now.points → v ≢ from → IsLinked walks.new.search.last.items v)
+        (λ v. (v < net.now.points) × (pos 0 <ℤ number_of wanted.now v)
+        × (v ≢ from → IsLinked walks.new.search.last.items v))) }
 {
     walks.from = from;
     let stop = walks.search.run(

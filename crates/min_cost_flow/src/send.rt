@@ -79,7 +79,9 @@ pub(crate) fn send(net: &Network, flow: &mut [u64], walks: &Walks, to: u32, most
 
     ensures some { IsSearchOf net.now flow.old walks.now.from walks.now.residual walks.now.search → 0 < result }
     ensures most { result ≤ most }
-    ensures sent { (v : ℕ) → net_of net.now.arcs flow.new v +ℤ pos (units_at result walks.now.from v) ≡ net_of net.now.arcs flow.old v +ℤ pos (units_at result to v) }
+    ensures sent { (v : ℕ)
+        → net_of net.now.arcs flow.new v +ℤ pos (units_at result walks.now.from v)
+        ≡ net_of net.now.arcs flow.old v +ℤ pos (units_at result to v) }
     ensures tight { IsTight net.now.arcs flow.new (potential_of walks.now.search.numbers.items) }
     ensures bound { (k : ℕ) → slice_index flow.new k ≤ slice_index flow.old k + result }
 {

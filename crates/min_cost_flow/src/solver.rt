@@ -31,7 +31,8 @@ pub fn solve(alloc: Global, net: &Network) -> Result<Solved, AllocError>
     ensures meets { IfOk result (λ s. MeetsNeeds net.now.points net.now.arcs net.now.need s.flow) }
     ensures tight { IfOk result (λ s. IsTight net.now.arcs s.flow (number_of s.potential)) }
     ensures root { IfOk result (λ s. number_of s.potential 0 ≡ pos 0) }
-    ensures least { IfOk result (λ s. (q : Sequence ℤ) → number_of q 0 ≡ pos 0 → IsTight net.now.arcs s.flow (number_of q) → (v : ℕ) → v < net.now.points → number_of s.potential v ≤ℤ number_of q v) }
+    ensures least { IfOk result (λ s. (q : Sequence ℤ) → number_of q 0 ≡ pos 0 → IsTight net.now.arcs s.flow (number_of q)
+        → (v : ℕ) → v < net.now.points → number_of s.potential v ≤ℤ number_of q v) }
 {
     let mut walks = first_walks(alloc, net)?;
     let flow = least_flow(alloc, net, &mut walks)?;

@@ -175,7 +175,8 @@ fn plus_product(sum: i128, units: u64, least: i64) -> i128
 fn weight(constraints: &[Constraint], arcs: &[Units]) -> i128
     requires leasts { AreSmall constraints.now }
     requires few { length arcs.now ≤ 2 ^ 14 }
-    ensures value { (g : Graph) (latency : ℕ) → map difference constraints.now ≡ network g latency → result ≡ flow_weight g latency arcs.now }
+    ensures value { (g : Graph) (latency : ℕ) → map difference constraints.now ≡ network g latency
+        → result ≡ flow_weight g latency arcs.now }
     ensures size { unsigned_abs result ≤ 2 ^ 110 }
 {
     let mut sum: i128 = 0;

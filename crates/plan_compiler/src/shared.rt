@@ -34,9 +34,11 @@ fn pooled(
     requires sound { IsSound graph.now }
     requires schedule { IsSchedule graph.now waves.now }
     requires lines { ports_of_lines lines.now ≡ values graph.now }
-    ensures assignment { IfOk result (λ h. IsAssignment (shared_lives_of graph.now waves.now lines.now (values graph.now)) h.homes h.channels) }
+    ensures assignment { IfOk result (λ h. IsAssignment (shared_lives_of graph.now waves.now lines.now
+        (values graph.now)) h.homes h.channels) }
     ensures least { IfOk result (λ h. IsLeastChannels (shared_lives_of graph.now waves.now lines.now (values graph.now)) h.channels) }
-    ensures peak { IfOk result (λ h. IsPeak (shared_lives_of graph.now waves.now lines.now (values graph.now)) (length waves.now) h.channels h.peak) }
+    ensures peak { IfOk result (λ h. IsPeak (shared_lives_of graph.now waves.now lines.now (values graph.now))
+        (length waves.now) h.channels h.peak) }
 {
     let lives = lives_shared(alloc, graph, waves, lines)?;
     assign(alloc, &lives, waves.len() as u32)
@@ -48,7 +50,8 @@ fn plan_for(alloc: Global, graph: &Checked, waves: List<Wave>) -> Result<Plan2, 
     ensures plan { IfOk result (IsPlanFor graph.now waves) }
     ensures latency { IfOk result (λ plan. plan.latency ≡ latency_of_graph graph.now) }
     ensures least_latency { IfOk result (λ plan. (q : ℕ → ℕ) → IsAlignment graph.now q → plan.latency ≤ q (output_name graph.now)) }
-    ensures least_channels { IfOk result (λ plan. IsLeastChannels (shared_lives_of graph.now plan.waves plan.lines (values graph.now)) plan.channels) }
+    ensures least_channels { IfOk result (λ plan. IsLeastChannels
+        (shared_lives_of graph.now plan.waves plan.lines (values graph.now)) plan.channels) }
 {
     // It is sound, which the laws of plans ask for.
     let _ = graph.graph();
@@ -87,7 +90,8 @@ pub fn compile_shared(alloc: Global, graph: &Checked, mode: Mode) -> Result<Plan
     ensures least_latency { IfOk result (λ plan. (q : ℕ → ℕ) → IsAlignment graph.now q → plan.latency ≤ q (output_name graph.now)) }
     ensures least_total { IfOk result (λ plan. IsLeastBy (shared_total graph.now) graph.now (position_in plan.at)) }
     ensures pointwise_least { IfOk result (λ plan. IsPointwiseLeastBy (shared_total graph.now) graph.now (position_in plan.at)) }
-    ensures least_channels { IfOk result (λ plan. IsLeastChannels (shared_lives_of graph.now plan.waves plan.lines (values graph.now)) plan.channels) }
+    ensures least_channels { IfOk result (λ plan. IsLeastChannels
+        (shared_lives_of graph.now plan.waves plan.lines (values graph.now)) plan.channels) }
 {
     let waves = schedule(alloc, graph, mode)?;
     plan_for(alloc, graph, waves)

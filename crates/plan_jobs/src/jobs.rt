@@ -92,7 +92,8 @@ fn with_wave(
 ) -> Result<Vec<Job<Player>>, AllocError>
     requires certified { IsCertified checked.now plan.now }
     requires live { All (λ u. is_live checked.now u.0 ≡ true) wave.now.nodes }
-    ensures { IfOk result (λ more. (vs : List ℕ) → AreNewJobs checked.now plan.now vs jobs.items → AreNewJobs checked.now plan.now (vs ++ names wave.now) more.items) }
+    ensures { IfOk result (λ more. (vs : List ℕ) → AreNewJobs checked.now plan.now vs jobs.items
+        → AreNewJobs checked.now plan.now (vs ++ names wave.now) more.items) }
 {
     for uid in wave.nodes.as_slice() {
         jobs.push(job_of(alloc, checked, plan, *uid)?)?;

@@ -75,7 +75,8 @@ fn silent_of(alloc: Global, wires: &[Wire], ins: usize) -> Result<Vec<usize>, Al
 
 /// The lines into a node, full of zeros.
 fn lines_of(alloc: Global, graph: &Graph, ats: &[At], uid: Uid) -> Result<Vec<Line>, AllocError>
-    requires after { All (λ c. c.dst.0 ≡ uid.0 → IsAfter graph.now (position_in ats.now) c × (delay graph.now (position_in ats.now) c ≤ 2 ^ 26)) graph.now.connections }
+    requires after { All (λ c. c.dst.0 ≡ uid.0
+        → IsAfter graph.now (position_in ats.now) c × (delay graph.now (position_in ats.now) c ≤ 2 ^ 26)) graph.now.connections }
     ensures { IfOk result (λ list. AreLinesOf graph.now (position_in ats.now) graph.now.connections uid.0 list.items) }
 {
     let mut list = Vec::new(alloc);
@@ -91,7 +92,8 @@ fn lines_of(alloc: Global, graph: &Graph, ats: &[At], uid: Uid) -> Result<Vec<Li
 fn server_of(alloc: Global, node: &Node, bound: &Bound) -> Result<Server, AllocError>
     requires range { HasRange node.now.kind }
     requires bound { is_input node.now.kind ≡ false → is_output node.now.kind ≡ false → IsBoundOf node.now.kind bound.now }
-    ensures { IfOk result (λ server. Serves node.now.kind bound.now server × ServerHolds server [] × FitsServer server (ins_of node.now.kind) (outs_of node.now.kind)) }
+    ensures { IfOk result (λ server. Serves node.now.kind bound.now server × ServerHolds server []
+        × FitsServer server (ins_of node.now.kind) (outs_of node.now.kind)) }
 {
     if node.kind.is_input() {
         return Ok(Server::Entry);
@@ -117,7 +119,8 @@ pub(crate) fn player_of(
     requires range { HasRange node.now.kind }
     requires bound { is_input node.now.kind ≡ false → is_output node.now.kind ≡ false → IsBoundOf node.now.kind bound.now }
     requires is { bound.now ≡ bounds graph.now node.now.uid.0 }
-    requires after { All (λ c. c.dst.0 ≡ node.now.uid.0 → IsAfter graph.now (position_in ats.now) c × (delay graph.now (position_in ats.now) c ≤ 2 ^ 26)) graph.now.connections }
+    requires after { All (λ c. c.dst.0 ≡ node.now.uid.0
+        → IsAfter graph.now (position_in ats.now) c × (delay graph.now (position_in ats.now) c ≤ 2 ^ 26)) graph.now.connections }
     requires channels { All (λ c. c.dst.0 ≡ node.now.uid.0 → c.dst_channel < ins_of node.now.kind) graph.now.connections }
     requires own { map core_home own.now ≡ homes_at homes.now node.now.uid.0 }
     ensures { IfOk result (λ player. IsNewPlayer graph.now (position_in ats.now) homes.now node.now.uid.0 own.now player) }

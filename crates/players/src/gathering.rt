@@ -36,8 +36,10 @@ impl Wire {
 /// Adds a sample to each sum.
 fn add(samples: &[i64], sums: &mut [i64])
     requires count { length sums.old ≡ length samples.now }
-    requires fit { (t : ℕ) → t < length samples.now → FitsSigned w64 (slice_index_or sums.old t (pos 0) +ℤ slice_index_or samples.now t (pos 0)) }
-    ensures { (t : ℕ) → t < length samples.now → slice_index_or sums.new t (pos 0) ≡ slice_index_or sums.old t (pos 0) +ℤ slice_index_or samples.now t (pos 0) }
+    requires fit { (t : ℕ) → t < length samples.now
+        → FitsSigned w64 (slice_index_or sums.old t (pos 0) +ℤ slice_index_or samples.now t (pos 0)) }
+    ensures { (t : ℕ) → t < length samples.now
+        → slice_index_or sums.new t (pos 0) ≡ slice_index_or sums.old t (pos 0) +ℤ slice_index_or samples.now t (pos 0) }
 {
     for t in 0..samples.len() {
         sums[t] += samples[t];
@@ -48,9 +50,12 @@ fn add(samples: &[i64], sums: &mut [i64])
 fn pour(first: bool, line: &mut Line, samples: &[i64], row: &mut [i64], spare: &mut [i64])
     requires row { length row.old ≡ length samples.now }
     requires spare { length spare.old ≡ length samples.now }
-    requires fit { (t : ℕ) → t < length samples.now → FitsSigned w64 (begun first (slice_index_or row.old t (pos 0)) +ℤ slice_index_or (passed line.old samples.now) t (pos 0)) }
+    requires fit { (t : ℕ) → t < length samples.now
+        → FitsSigned w64 (begun first (slice_index_or row.old t (pos 0)) +ℤ slice_index_or (passed line.old samples.now) t (pos 0)) }
     ensures line { line.new ≡ kept line.old samples.now }
-    ensures row { (t : ℕ) → t < length samples.now → slice_index_or row.new t (pos 0) ≡ begun first (slice_index_or row.old t (pos 0)) +ℤ slice_index_or (passed line.old samples.now) t (pos 0) }
+    ensures row { (t : ℕ) → t < length samples.now
+        → slice_index_or row.new t (pos 0)
+        ≡ begun first (slice_index_or row.old t (pos 0)) +ℤ slice_index_or (passed line.old samples.now) t (pos 0) }
 {
     if line.is_empty() {
         if first {
@@ -77,10 +82,15 @@ fn pour_row(
 )
     requires room { base + length samples.now ≤ length sums.old }
     requires spare { length samples.now ≤ length spare.old }
-    requires fit { (t : ℕ) → t < length samples.now → FitsSigned w64 (begun first (slice_index_or sums.old (base + t) (pos 0)) +ℤ slice_index_or (passed line.old samples.now) t (pos 0)) }
+    requires fit { (t : ℕ) → t < length samples.now
+        → FitsSigned w64 (begun first (slice_index_or sums.old (base + t) (pos 0))
+        +ℤ slice_index_or (passed line.old samples.now) t (pos 0)) }
     ensures line { line.new ≡ kept line.old samples.now }
-    ensures sums { (t : ℕ) → t < length samples.now → slice_index_or sums.new (base + t) (pos 0) ≡ begun first (slice_index_or sums.old (base + t) (pos 0)) +ℤ slice_index_or (passed line.old samples.now) t (pos 0) }
-    ensures rest { (j : ℕ) → (j < base) ⊎ (base + length samples.now ≤ j) → slice_index_or sums.new j (pos 0) ≡ slice_index_or sums.old j (pos 0) }
+    ensures sums { (t : ℕ) → t < length samples.now
+        → slice_index_or sums.new (base + t) (pos 0)
+        ≡ begun first (slice_index_or sums.old (base + t) (pos 0)) +ℤ slice_index_or (passed line.old samples.now) t (pos 0) }
+    ensures rest { (j : ℕ) → (j < base) ⊎ (base + length samples.now ≤ j)
+        → slice_index_or sums.new j (pos 0) ≡ slice_index_or sums.old j (pos 0) }
 {
     let count = samples.len();
     pour(
@@ -126,7 +136,9 @@ pub fn gather(
     requires fit { (t : ℕ) → t < count → SumsFit (channels_of wires.now) (taps_at wires.now pool.now outs.now first count lines.old t) }
     requires spare { count ≤ length spare.old }
     ensures lines { lines.new ≡ lines_after wires.now pool.now outs.now first count lines.old }
-    ensures sums { (d t : ℕ) → IsSet (channels_of wires.now) silent.now d → d * count + count ≤ length sums.old → t < count → slice_index_or sums.new (d * count + t) (pos 0) ≡ sum_on d (channels_of wires.now) (taps_at wires.now pool.now outs.now first count lines.old t) }
+    ensures sums { (d t : ℕ) → IsSet (channels_of wires.now) silent.now d → d * count + count ≤ length sums.old → t < count
+        → slice_index_or sums.new (d * count + t) (pos 0)
+        ≡ sum_on d (channels_of wires.now) (taps_at wires.now pool.now outs.now first count lines.old t) }
 {
     silence(silent, count, sums);
     for i in 0..wires.len() {

@@ -23,7 +23,8 @@ pub struct Leaving {
 fn leave_rows(lines: &mut [Line], count: usize, rows: &[i64], spare: &mut [i64])
     requires rows { length lines.old * count ≤ length rows.now }
     requires spare { count ≤ length spare.old }
-    ensures { (d : ℕ) → d < length lines.old → slice_index_or lines.new d [] ≡ kept (slice_index_or lines.old d []) (part (d * count) count rows.now) }
+    ensures { (d : ℕ) → d < length lines.old
+        → slice_index_or lines.new d [] ≡ kept (slice_index_or lines.old d []) (part (d * count) count rows.now) }
 {
     for d in 0..lines.len() {
         let base = d * count;
@@ -62,7 +63,8 @@ impl Leaving {
         ensures start { self.new.start ≡ self.old.start }
         ensures spare { length self.new.spare.items ≡ length self.old.spare.items }
         ensures count { length self.new.lines.items ≡ length self.old.lines.items }
-        ensures lines { (d : ℕ) → d < length self.old.lines.items → slice_index_or self.new.lines.items d [] ≡ kept (slice_index_or self.old.lines.items d []) (part (d * count) count rows.now) }
+        ensures lines { (d : ℕ) → d < length self.old.lines.items
+            → slice_index_or self.new.lines.items d [] ≡ kept (slice_index_or self.old.lines.items d []) (part (d * count) count rows.now) }
     {
         leave_rows(
             self.lines.as_mut_slice(),

@@ -23,4 +23,3 @@ pub use gathering::Wire;
 pub use leaving::{Leaving, zeros};
 pub use part::Stage;
 pub use playing::{Player, SUB, Server};
-

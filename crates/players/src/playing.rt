@@ -50,8 +50,12 @@ impl Server {
         requires entry { (first + count) * channels ≤ length input.now }
         ensures same { SameServer self.old self.new }
         ensures fits { FitsServer self.new ins outs }
-        ensures holds { (h : History) → ServerHolds self.old h → ServerHolds self.new (brought self.old (frame_in channels input.now) first (planar_frame ins count sums.now) count ++ h) }
-        ensures told { (h : History) (c t : ℕ) → ServerHolds self.old h → c < outs → t < count → get_or told.new (c * count + t) (pos 0) ≡ get_or (given_by self.old (brought self.old (frame_in channels input.now) first (planar_frame ins count sums.now) (suc t) ++ h)) c (pos 0) }
+        ensures holds { (h : History) → ServerHolds self.old h
+            → ServerHolds self.new (brought self.old (frame_in channels input.now) first (planar_frame ins count sums.now) count ++ h) }
+        ensures told { (h : History) (c t : ℕ) → ServerHolds self.old h → c < outs → t < count
+            → get_or told.new (c * count + t) (pos 0)
+            ≡ get_or (given_by self.old (brought self.old (frame_in channels input.now) first (planar_frame ins count sums.now) (suc t)
+            ++ h)) c (pos 0) }
     {
         match self {
             Server::Entry => enter(input, channels, first, count, outs, told),

@@ -11,8 +11,11 @@ pub fn scatter(homes: &[Home], told: &[i64], first: usize, count: usize, outs: &
     requires channels { (o : ℕ) (d : _) → o < length homes.now → (slice_index_or homes.now o d).channel * count + count ≤ length told.now }
     requires room { (o : ℕ) → o < length outs.old → first + count ≤ length (slice_index_or outs.old o []) }
     ensures lengths { (o : ℕ) → length (slice_index_or outs.new o []) ≡ length (slice_index_or outs.old o []) }
-    ensures samples { (o t : ℕ) (d : _) → o < length homes.now → t < count → slice_index_or (slice_index_or outs.new o []) (first + t) (pos 0) ≡ slice_index_or told.now ((slice_index_or homes.now o d).channel * count + t) (pos 0) }
-    ensures rest { (o j : ℕ) → (j < first) ⊎ (first + count ≤ j) → slice_index_or (slice_index_or outs.new o []) j (pos 0) ≡ slice_index_or (slice_index_or outs.old o []) j (pos 0) }
+    ensures samples { (o t : ℕ) (d : _) → o < length homes.now → t < count
+        → slice_index_or (slice_index_or outs.new o []) (first + t) (pos 0)
+        ≡ slice_index_or told.now ((slice_index_or homes.now o d).channel * count + t) (pos 0) }
+    ensures rest { (o j : ℕ) → (j < first) ⊎ (first + count ≤ j)
+        → slice_index_or (slice_index_or outs.new o []) j (pos 0) ≡ slice_index_or (slice_index_or outs.old o []) j (pos 0) }
 {
     for o in 0..homes.len() {
         let base = homes[o].channel * count;

@@ -25,7 +25,8 @@ fn sample_at(input: &[i64], channels: usize, frame: usize, channel: usize) -> i6
 fn enter_row(input: &[i64], channels: usize, first: usize, channel: usize, row: &mut [i64])
     requires entry { (first + length row.old) * channels ≤ length input.now }
     requires size { first + length row.old < 2 ^ 63 }
-    ensures { (t : ℕ) → t < length row.old → slice_index_or row.new t (pos 0) ≡ slice_index_or (frame_in channels input.now (first + t)) channel (pos 0) }
+    ensures { (t : ℕ) → t < length row.old
+        → slice_index_or row.new t (pos 0) ≡ slice_index_or (frame_in channels input.now (first + t)) channel (pos 0) }
 {
     for t in 0..row.len() {
         row[t] = sample_at(input, channels, first + t, channel);
@@ -44,7 +45,8 @@ pub fn enter(
     requires entry { (first + count) * channels ≤ length input.now }
     requires size { first + count < 2 ^ 63 }
     requires told { outs * count ≤ length told.old }
-    ensures { (c t : ℕ) → c < outs → t < count → slice_index_or told.new (c * count + t) (pos 0) ≡ slice_index_or (frame_in channels input.now (first + t)) c (pos 0) }
+    ensures { (c t : ℕ) → c < outs → t < count
+        → slice_index_or told.new (c * count + t) (pos 0) ≡ slice_index_or (frame_in channels input.now (first + t)) c (pos 0) }
 {
     for c in 0..outs {
         let base = c * count;
@@ -69,7 +71,9 @@ pub fn process(
     ensures kind { processor.new.kind ≡ processor.old.kind }
     ensures bound { processor.new.bound ≡ processor.old.bound }
     ensures keeps { (h : History) → Keeps processor.old h → Keeps processor.new (before (planar_frame ins count sums.now) count ++ h) }
-    ensures told { (h : History) (c t : ℕ) → Keeps processor.old h → c < outs → t < count → slice_index_or told.new (c * count + t) (pos 0) ≡ slice_index_or (rule_of processor.old.kind (before (planar_frame ins count sums.now) (suc t) ++ h)) c (pos 0) }
+    ensures told { (h : History) (c t : ℕ) → Keeps processor.old h → c < outs → t < count
+        → slice_index_or told.new (c * count + t) (pos 0)
+        ≡ slice_index_or (rule_of processor.old.kind (before (planar_frame ins count sums.now) (suc t) ++ h)) c (pos 0) }
 {
     processor.process_block(count, &sums[..ins * count], &mut told[..outs * count]);
 }

@@ -85,7 +85,8 @@ fn rendered(
     requires small { AreUpTo (2 ^ 31) input.now }
     requires count { length positions.now ≡ length graph.now.nodes }
     requires alignment { IsAlignment graph.now (position_at graph.now positions.now) }
-    ensures { IfOk result (λ v. v ≡ interleaved (shifted (position_at graph.now positions.now (output_name graph.now) - latency_of_graph graph.now)
+    ensures { IfOk result (λ v. v
+        ≡ interleaved (shifted (position_at graph.now positions.now (output_name graph.now) - latency_of_graph graph.now)
         (out_channels graph.now) (answer graph.now (frames_of (in_channels graph.now) input.now)))) }
 {
     let evaluation = Evaluation::new(alloc, graph, positions, input)?;

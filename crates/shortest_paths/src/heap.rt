@@ -55,7 +55,8 @@ fn wait(
     requires small { AreSmall numbers.now }
 
     ensures len { OnOk result (heap_len waiting.new ≡ heap_len waiting.old + 1) }
-    ensures joins { OnOk result ((b : Best) → found best.now point ≡ Some b → IsPermutation (waiter numbers.now b.cost point ∷ heap_items waiting.old) (heap_items waiting.new)) }
+    ensures joins { OnOk result ((b : Best) → found best.now point ≡ Some b
+        → IsPermutation (waiter numbers.now b.cost point ∷ heap_items waiting.old) (heap_items waiting.new)) }
     ensures order { OnOk result (IsHeap compare_waiters (heap_items waiting.old) → IsHeap compare_waiters (heap_items waiting.new)) }
 {
     let Some(walk) = best[point as usize] else {
@@ -88,8 +89,10 @@ fn relax_at(
     requires small { AreSmall numbers.now }
     requires searched { (from : ℕ) × IsSearched (usable edges.now limits.now) from best.old }
 
-    ensures relaxed { OnOk result (IsRelaxed (usable edges.now limits.now) numbers.now best.old best.new (heap_items waiting.old) (heap_items waiting.new) (heap_len waiting.old) (heap_len waiting.new)) }
-    ensures here { OnOk result ((e : Edge) → slice_get (usable edges.now limits.now) index ≡ Some e → Waits best.new numbers.now (heap_items waiting.new) e) }
+    ensures relaxed { OnOk result (IsRelaxed (usable edges.now limits.now) numbers.now best.old best.new (heap_items waiting.old)
+        (heap_items waiting.new) (heap_len waiting.old) (heap_len waiting.new)) }
+    ensures here { OnOk result ((e : Edge) → slice_get (usable edges.now limits.now) index ≡ Some e
+        → Waits best.new numbers.now (heap_items waiting.new) e) }
 {
     let edge = usable_edge(edges, limits, index);
     if edge.head == edge.tail {
@@ -123,8 +126,10 @@ fn relax_from(
     requires searched { (from : ℕ) × IsSearched (usable edges.now limits.now) from best.old }
     requires point { point < length best.old }
 
-    ensures relaxed { OnOk result (IsRelaxed (usable edges.now limits.now) numbers.now best.old best.new (heap_items waiting.old) (heap_items waiting.new) (heap_len waiting.old) (heap_len waiting.new)) }
-    ensures all { OnOk result (AllWaitBut point best.old numbers.now (heap_items waiting.old) (usable edges.now limits.now) → AllWait best.new numbers.now (heap_items waiting.new) (usable edges.now limits.now)) }
+    ensures relaxed { OnOk result (IsRelaxed (usable edges.now limits.now) numbers.now best.old best.new (heap_items waiting.old)
+        (heap_items waiting.new) (heap_len waiting.old) (heap_len waiting.new)) }
+    ensures all { OnOk result (AllWaitBut point best.old numbers.now (heap_items waiting.old) (usable edges.now limits.now)
+        → AllWait best.new numbers.now (heap_items waiting.new) (usable edges.now limits.now)) }
 {
     let mut next = leaving.newest[point as usize];
     while let Some(index) = next {
@@ -141,7 +146,8 @@ fn take_nearest(
     ensures len { OnSome result (heap_len waiting.new + 1 ≡ heap_len waiting.old) }
     ensures moved { IfSome result (λ w. IsPermutation (heap_items waiting.old) (w ∷ heap_items waiting.new)) }
     ensures order { IfSome result (λ w. IsHeap compare_waiters (heap_items waiting.old) → IsHeap compare_waiters (heap_items waiting.new)) }
-    ensures first { IfSome result (λ w. IsHeap compare_waiters (heap_items waiting.old) → IsUpperBound compare_waiters w (heap_items waiting.old)) }
+    ensures first { IfSome result (λ w. IsHeap compare_waiters (heap_items waiting.old)
+        → IsUpperBound compare_waiters w (heap_items waiting.old)) }
     ensures none { IfNone result (heap_len waiting.old ≡ 0) }
 {
     match waiting.pop() {
@@ -214,9 +220,12 @@ fn settle(
     requires order { IsHeap compare_waiters (heap_items waiting.old) }
     requires inside { AreWaiters (length best.old) numbers.now (heap_items waiting.old) }
 
-    ensures kept { OnOk result ((from : ℕ) → IsSearched (usable edges.now limits.now) from best.old → IsSearched (usable edges.now limits.now) from best.new) }
+    ensures kept { OnOk result ((from : ℕ) → IsSearched (usable edges.now limits.now) from best.old
+        → IsSearched (usable edges.now limits.now) from best.new) }
     ensures settled { IfOk result (λ s. AreSettledBelow best.new numbers.now s.limit (usable edges.now limits.now)) }
-    ensures stop { IfOk result (λ s. MatchOption s.point ((s.limit ≡ pos (2 ^ 62)) × AreSettled best.new (usable edges.now limits.now)) (λ v. (pos 0 <ℤ number_of wanted.now v) × ((b : Best) × (found best.new v ≡ Some b) × (s.limit ≡ b.cost -ℤ number_of numbers.now v)))) }
+    ensures stop { IfOk result (λ s. MatchOption s.point ((s.limit ≡ pos (2 ^ 62))
+        × AreSettled best.new (usable edges.now limits.now)) (λ v. (pos 0 <ℤ number_of wanted.now v)
+        × ((b : Best) × (found best.new v ≡ Some b) × (s.limit ≡ b.cost -ℤ number_of numbers.now v)))) }
 {
     let mut left = enough;
     while let Some(Reverse((ahead, cost, point))) = take_nearest(waiting) {
@@ -277,7 +286,8 @@ fn cut_at(
     requires number { IsWithin (2 ^ 60) (number_of numbers.old point) }
     requires limit { IsWithin (2 ^ 62) limit }
 
-    ensures here { IsCutAt (found best.now point) (number_of numbers.old point +ℤ limit) (number_of numbers.new point) (slice_index_or last.new point None) }
+    ensures here { IsCutAt (found best.now point) (number_of numbers.old point +ℤ limit) (number_of numbers.new point)
+        (slice_index_or last.new point None) }
     ensures numbers { (v : ℕ) → v ≢ point → number_of numbers.new v ≡ number_of numbers.old v }
     ensures lasts { (v : ℕ) → v ≢ point → slice_index_or last.new v None ≡ slice_index_or last.old v None }
 {
@@ -371,9 +381,13 @@ impl Searcher {
         ensures permits { OnOk result (Permits (usable edges.now limits.now) self.new.numbers.items) }
         ensures start { OnOk result (number_of self.new.numbers.items from ≡ pos 0) }
         ensures none_at_from { OnOk result (slice_get self.new.last.items from ≡ Some None) }
-        ensures last { OnOk result ((v k : ℕ) → slice_get self.new.last.items v ≡ Some (Some k) → EndsLeast (usable edges.now limits.now) self.new.numbers.items v k) }
-        ensures tree { OnOk result ((v k : ℕ) → slice_get self.new.last.items v ≡ Some (Some k) → (n : ℕ) × (n < self.old.points) × ClimbsIn (usable edges.now limits.now) self.new.last.items from n v) }
-        ensures stop { IfOk result (λ stop. MatchOption stop ((v : ℕ) → v < self.old.points → v ≢ from → IsLinked self.new.last.items v) (λ v. (v < self.old.points) × (pos 0 <ℤ number_of wanted.now v) × (v ≢ from → IsLinked self.new.last.items v))) }
+        ensures last { OnOk result ((v k : ℕ) → slice_get self.new.last.items v ≡ Some (Some k)
+            → EndsLeast (usable edges.now limits.now) self.new.numbers.items v k) }
+        ensures tree { OnOk result ((v k : ℕ) → slice_get self.new.last.items v ≡ Some (Some k)
+            → (n : ℕ) × (n < self.old.points) × ClimbsIn (usable edges.now limits.now) self.new.last.items from n v) }
+        ensures stop { IfOk result (λ stop. MatchOption stop ((v : ℕ) → v < self.old.points → v ≢ from
+            → IsLinked self.new.last.items v) (λ v. (v < self.old.points) × (pos 0 <ℤ number_of wanted.now v)
+            × (v ≢ from → IsLinked self.new.last.items v))) }
     {
         let stop = search_tree(
             &mut self.best,
@@ -402,7 +416,8 @@ fn begin(
     requires numbers { length numbers.now ≡ length best.old }
     requires small { AreSmall numbers.now }
 
-    ensures best { OnOk result (best.new ≡ slice_set (replicate (length best.old) None) from (Some (record { cost = pos 0; last = None }))) }
+    ensures best { OnOk result (best.new
+        ≡ slice_set (replicate (length best.old) None) from (Some (record { cost = pos 0; last = None }))) }
     ensures waits { OnOk result (Contains (heap_items waiting.new) (waiter numbers.now (pos 0) from)) }
     ensures order { OnOk result (IsHeap compare_waiters (heap_items waiting.new)) }
     ensures inside { OnOk result (AreWaiters (length best.old) numbers.now (heap_items waiting.new)) }
@@ -447,9 +462,12 @@ fn search_tree(
     ensures permits { OnOk result (Permits (usable edges.now limits.now) numbers.new) }
     ensures start { OnOk result (number_of numbers.new from ≡ pos 0) }
     ensures none_at_from { OnOk result (slice_get last.new from ≡ Some None) }
-    ensures last { OnOk result ((v k : ℕ) → slice_get last.new v ≡ Some (Some k) → EndsLeast (usable edges.now limits.now) numbers.new v k) }
-    ensures tree { OnOk result ((v k : ℕ) → slice_get last.new v ≡ Some (Some k) → (n : ℕ) × (n < length best.old) × ClimbsIn (usable edges.now limits.now) last.new from n v) }
-    ensures stop { IfOk result (λ stop. MatchOption stop ((v : ℕ) → v < length best.old → v ≢ from → IsLinked last.new v) (λ v. (v < length best.old) × (pos 0 <ℤ number_of wanted.now v) × (v ≢ from → IsLinked last.new v))) }
+    ensures last { OnOk result ((v k : ℕ) → slice_get last.new v ≡ Some (Some k)
+        → EndsLeast (usable edges.now limits.now) numbers.new v k) }
+    ensures tree { OnOk result ((v k : ℕ) → slice_get last.new v ≡ Some (Some k)
+        → (n : ℕ) × (n < length best.old) × ClimbsIn (usable edges.now limits.now) last.new from n v) }
+    ensures stop { IfOk result (λ stop. MatchOption stop ((v : ℕ) → v < length best.old → v ≢ from
+        → IsLinked last.new v) (λ v. (v < length best.old) × (pos 0 <ℤ number_of wanted.now v) × (v ≢ from → IsLinked last.new v))) }
 {
     begin(best, waiting, numbers, from)?;
     let stop = settle(

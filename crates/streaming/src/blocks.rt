@@ -77,8 +77,10 @@ fn put_out<F: Folder>(
     requires room { length samples.now * (to.now.bits / 8) ≤ length bytes.old }
     ensures others { KeepsOthers to.now.name.now (F.held folder.old) (F.held folder.new) }
     ensures ok { OnOk result (IsAppended to.now.name.now (bytes_of to.now.bits samples.now) (F.held folder.old) (F.held folder.new)) }
-    ensures part { OnErr result (IsPartAppended to.now.name.now (bytes_of to.now.bits samples.now) (F.held folder.old) (F.held folder.new)) }
-    ensures failed { OnErr result (IsMissing to.now.name.now (F.held folder.old) ⊎ Rose (F.write_faults folder.old) (F.write_faults folder.new)) }
+    ensures part { OnErr result (IsPartAppended to.now.name.now (bytes_of to.now.bits samples.now) (F.held folder.old)
+        (F.held folder.new)) }
+    ensures failed { OnErr result (IsMissing to.now.name.now (F.held folder.old)
+        ⊎ Rose (F.write_faults folder.old) (F.write_faults folder.new)) }
     ensures reads { F.read_faults folder.new ≡ F.read_faults folder.old }
     ensures writes { F.write_faults folder.old ≤ F.write_faults folder.new }
     ensures room_stays { length bytes.new ≡ length bytes.old }
@@ -124,7 +126,8 @@ fn render_next<T: Threads + Sync, F: Folder>(
     requires come { count * from.now.head.channels ≤ length came.old }
     requires go { count * to.now.channels ≤ length went.old }
     ensures held { F.held folder.new ≡ F.held folder.old }
-    ensures rendered { OnOk result (IsRendered from.now first count (take (count * to.now.channels) went.new) (F.held folder.old) engine.old engine.new) }
+    ensures rendered { OnOk result (IsRendered from.now first count (take (count * to.now.channels) went.new)
+        (F.held folder.old) engine.old engine.new) }
     ensures count { OnOk result (engine.new.frames ≡ engine.old.frames + count) }
     ensures unread { OnErr result (engine.new ≡ engine.old) }
     ensures failed { OnErr result (Rose (F.read_faults folder.old) (F.read_faults folder.new)) }
@@ -156,9 +159,12 @@ fn put_next<F: Folder>(
     requires go { count * to.now.channels ≤ length went.now }
     requires room { count * to.now.channels * (to.now.bits / 8) ≤ length put.old }
     ensures others { KeepsOthers to.now.name.now (F.held folder.old) (F.held folder.new) }
-    ensures ok { OnOk result (IsAppended to.now.name.now (put_of to.now first (take (count * to.now.channels) went.now)) (F.held folder.old) (F.held folder.new)) }
-    ensures part { OnErr result (IsPartAppended to.now.name.now (put_of to.now first (take (count * to.now.channels) went.now)) (F.held folder.old) (F.held folder.new)) }
-    ensures failed { OnErr result (IsMissing to.now.name.now (F.held folder.old) ⊎ Rose (F.write_faults folder.old) (F.write_faults folder.new)) }
+    ensures ok { OnOk result (IsAppended to.now.name.now (put_of to.now first (take (count * to.now.channels) went.now)) (F.held folder.old)
+        (F.held folder.new)) }
+    ensures part { OnErr result (IsPartAppended to.now.name.now (put_of to.now first (take (count * to.now.channels) went.now))
+        (F.held folder.old) (F.held folder.new)) }
+    ensures failed { OnErr result (IsMissing to.now.name.now (F.held folder.old)
+        ⊎ Rose (F.write_faults folder.old) (F.write_faults folder.new)) }
     ensures reads { F.read_faults folder.new ≡ F.read_faults folder.old }
     ensures writes { F.write_faults folder.old ≤ F.write_faults folder.new }
     ensures put_stays { length put.new ≡ length put.old }
@@ -190,8 +196,10 @@ fn stream_block<T: Threads + Sync, F: Folder>(
     ensures count { OnOk result (engine.new.frames ≡ engine.old.frames + count) }
     ensures unread { result ≡ Fails Fault.Read → (F.held folder.new ≡ F.held folder.old) × (engine.new ≡ engine.old) }
     ensures read_failed { result ≡ Fails Fault.Read → Rose (F.read_faults folder.old) (F.read_faults folder.new) }
-    ensures broken { result ≡ Fails Fault.Write → BreaksOff from.now to.now first count (F.held folder.old) engine.old (F.held folder.new) engine.new }
-    ensures write_failed { result ≡ Fails Fault.Write → IsMissing to.now.name.now (F.held folder.old) ⊎ Rose (F.write_faults folder.old) (F.write_faults folder.new) }
+    ensures broken { result ≡ Fails Fault.Write
+        → BreaksOff from.now to.now first count (F.held folder.old) engine.old (F.held folder.new) engine.new }
+    ensures write_failed { result ≡ Fails Fault.Write
+        → IsMissing to.now.name.now (F.held folder.old) ⊎ Rose (F.write_faults folder.old) (F.write_faults folder.new) }
     ensures reads { F.read_faults folder.old ≤ F.read_faults folder.new }
     ensures writes { F.write_faults folder.old ≤ F.write_faults folder.new }
     ensures room_stays { HasRoom from.now to.now engine.old.block room.new }
@@ -240,11 +248,15 @@ pub fn stream<T: Threads + Sync, F: Folder>(
     requires new { Stands engine.old [] }
     ensures others { KeepsOthers to.now.name.now (F.held folder.old) (F.held folder.new) }
     ensures same { IsSame engine.old engine.new }
-    ensures done { OnOk result (HasPut from.now to.now (all_frames from.now) (F.held folder.old) engine.old (F.held folder.new) engine.new) }
-    ensures unread { result ≡ Fails Fault.Read → (k : ℕ) × (k < all_frames from.now) × HasPut from.now to.now k (F.held folder.old) engine.old (F.held folder.new) engine.new }
+    ensures done { OnOk result (HasPut from.now to.now (all_frames from.now) (F.held folder.old) engine.old
+        (F.held folder.new) engine.new) }
+    ensures unread { result ≡ Fails Fault.Read
+        → (k : ℕ) × (k < all_frames from.now) × HasPut from.now to.now k (F.held folder.old) engine.old (F.held folder.new) engine.new }
     ensures read_failed { result ≡ Fails Fault.Read → Rose (F.read_faults folder.old) (F.read_faults folder.new) }
-    ensures broken { result ≡ Fails Fault.Write → (k : ℕ) × (k ≤ all_frames from.now) × HasPutPart from.now to.now k (F.held folder.old) engine.old (F.held folder.new) engine.new }
-    ensures write_failed { result ≡ Fails Fault.Write → IsMissing to.now.name.now (F.held folder.old) ⊎ Rose (F.write_faults folder.old) (F.write_faults folder.new) }
+    ensures broken { result ≡ Fails Fault.Write
+        → (k : ℕ) × (k ≤ all_frames from.now) × HasPutPart from.now to.now k (F.held folder.old) engine.old (F.held folder.new) engine.new }
+    ensures write_failed { result ≡ Fails Fault.Write
+        → IsMissing to.now.name.now (F.held folder.old) ⊎ Rose (F.write_faults folder.old) (F.write_faults folder.new) }
     ensures reads { F.read_faults folder.old ≤ F.read_faults folder.new }
     ensures writes { F.write_faults folder.old ≤ F.write_faults folder.new }
 {

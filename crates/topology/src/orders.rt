@@ -51,7 +51,8 @@ fn first_free(uids: &[u32], taken: &[bool], blocks: &[Option<usize>]) -> Option<
 
 /// The first node that is not taken.
 fn first_left(taken: &[bool]) -> Option<usize>
-    ensures { MatchOption result ((v : ℕ) → v < length taken.now → is_taken taken.now v ≡ true) (λ v. (v < length taken.now) × (is_taken taken.now v ≡ false)) }
+    ensures { MatchOption result ((v : ℕ) → v < length taken.now
+        → is_taken taken.now v ≡ true) (λ v. (v < length taken.now) × (is_taken taken.now v ≡ false)) }
 {
     for v in 0..taken.len() {
         if !taken[v] {

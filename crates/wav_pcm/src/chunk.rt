@@ -61,7 +61,8 @@ pub(crate) fn read_chunks<F: Folder>(
     requires there { ¬ IsPast name.now size (F.held folder.old) }
     ensures held { F.held folder.new ≡ F.held folder.old }
     ensures found { IfOk result (λ chunks. HeldBytes name.now (F.held folder.old) (λ bytes. size ≡ length bytes
-        → (all : List Chunk) × AreChunks 12 bytes all × (chunks.first_format ≡ find is_format all) × (chunks.first_data ≡ find is_data all))) }
+        → (all : List Chunk) × AreChunks 12 bytes all × (chunks.first_format ≡ find is_format all)
+        × (chunks.first_data ≡ find is_data all))) }
     ensures within { IfOk result (λ chunks. IfSome chunks.first_data (λ chunk. chunk.from ≤ size)) }
     ensures failed { OnErr result (Rose (F.read_faults folder.old) (F.read_faults folder.new)) }
     ensures reads { F.read_faults folder.old ≤ F.read_faults folder.new }

@@ -126,7 +126,8 @@ fn read_extension<F: Folder>(
     requires room { chunk.now.from + chunk.now.size < 2 ^ 64 }
     requires there { ¬ IsPast name.now (chunk.now.from + chunk.now.size) (F.held folder.old) }
     ensures held { F.held folder.new ≡ F.held folder.old }
-    ensures extension { IfOk result (λ extension. HeldBytes name.now (F.held folder.old) (λ bytes. extension ≡ extension_in bytes chunk.now)) }
+    ensures extension { IfOk result (λ extension. HeldBytes name.now (F.held folder.old) (λ bytes. extension
+        ≡ extension_in bytes chunk.now)) }
     ensures failed { OnErr result (Rose (F.read_faults folder.old) (F.read_faults folder.new)) }
     ensures reads { F.read_faults folder.old ≤ F.read_faults folder.new }
     ensures writes { F.write_faults folder.new ≡ F.write_faults folder.old }

@@ -28,4 +28,3 @@ pub use head::{Head, HeadFault, MOST_DATA, WavFault};
 pub use reading::{read_frames, read_head};
 pub use sample::{frame_bytes, is_size};
 pub use writing::{head_bytes, put_frames};
-

@@ -49,7 +49,8 @@ pub(crate) fn planned(
 fn prepare<F: Folder>(alloc: Global, folder: &mut F, request: &CompileRequest) -> Result<Work, End>
     ensures held { F.held folder.new ≡ F.held folder.old }
     ensures work { IfOk result (λ w. IsWork (Asks (compile (compile_said request.now))) (F.held folder.old) w.plan w.text.items w.end) }
-    ensures stops { IfErr result (Stops (IsCompileEnd (compile_said request.now) (F.held folder.old)) (Rose (F.read_faults folder.old) (F.read_faults folder.new))) }
+    ensures stops { IfErr result (Stops (IsCompileEnd (compile_said request.now) (F.held folder.old))
+        (Rose (F.read_faults folder.old) (F.read_faults folder.new))) }
     ensures early { IfErr result IsOfFiles }
     ensures reads { F.read_faults folder.old ≤ F.read_faults folder.new }
     ensures writes { F.write_faults folder.new ≡ F.write_faults folder.old }

@@ -98,7 +98,8 @@ fn prepare<'a, F: Folder>(
     requires cutting { IsCutting request.now.cutting }
     ensures held { F.held folder.new ≡ F.held folder.old }
     ensures ready { IfOk result (IsReadyJob (render_said request.now) (F.held folder.old)) }
-    ensures stops { IfErr result (Stops (IsReadEnd (render_said request.now) (F.held folder.old)) (Rose (F.read_faults folder.old) (F.read_faults folder.new))) }
+    ensures stops { IfErr result (Stops (IsReadEnd (render_said request.now) (F.held folder.old))
+        (Rose (F.read_faults folder.old) (F.read_faults folder.new))) }
     ensures early { IfErr result IsOfFiles }
     ensures reads { F.read_faults folder.old ≤ F.read_faults folder.new }
     ensures writes { F.write_faults folder.new ≡ F.write_faults folder.old }

@@ -37,7 +37,8 @@ pub(crate) fn rendering_of<'a>(request: &RenderRequest<'a>, input: &Input) -> Re
     requires short { written_frames input.now.form * (input.now.form.channels * (input.now.form.bits / 8)) ≤ most_data }
     requires few { (input.now.form.frames ≤ 2 ^ 33) × (input.now.form.skipped ≤ input.now.form.frames) }
     requires silent { input.now.form.silent ≤ input.now.form.frames }
-    ensures { (g : GraphValue) → IsFormOf (render_said request.now) g input.now.head input.now.form → IsRenderingOf (render_said request.now) g input.now.head result }
+    ensures { (g : GraphValue) → IsFormOf (render_said request.now) g input.now.head input.now.form
+        → IsRenderingOf (render_said request.now) g input.now.head result }
 {
     let form = &input.form;
     let mut head = [0; 44];
@@ -110,12 +111,17 @@ pub(crate) fn write_file<T: Threads + Sync, F: Folder>(
     ensures others { KeepsOthers rendering.now.to.name.now (F.held folder.old) (F.held folder.new) }
     ensures same { IsSame engine.old engine.new }
     ensures done { OnOk result (HeldBytes rendering.now.from.name.now (F.held folder.old)
-        (λ file. Stands engine.new (first_frames rendering.now.from file (all_frames rendering.now.from)) × Holds rendering.now.to.name.now (whole_of rendering.now engine.old.graph file) (F.held folder.new))) }
-    ensures unread { result ≡ Fails Fault.Read → (k : ℕ) × (k < all_frames rendering.now.from) × HeldBytes rendering.now.from.name.now (F.held folder.old)
-        (λ file. Stands engine.new (first_frames rendering.now.from file k) × Holds rendering.now.to.name.now (part_of rendering.now engine.old.graph file k) (F.held folder.new)) }
+        (λ file. Stands engine.new (first_frames rendering.now.from file (all_frames rendering.now.from))
+        × Holds rendering.now.to.name.now (whole_of rendering.now engine.old.graph file) (F.held folder.new))) }
+    ensures unread { result ≡ Fails Fault.Read
+        → (k : ℕ) × (k < all_frames rendering.now.from) × HeldBytes rendering.now.from.name.now (F.held folder.old)
+        (λ file. Stands engine.new (first_frames rendering.now.from file k)
+        × Holds rendering.now.to.name.now (part_of rendering.now engine.old.graph file k) (F.held folder.new)) }
     ensures read_failed { result ≡ Fails Fault.Read → Rose (F.read_faults folder.old) (F.read_faults folder.new) }
-    ensures broken { result ≡ Fails Fault.Write → (k : ℕ) × (k ≤ all_frames rendering.now.from) × HeldBytes rendering.now.from.name.now (F.held folder.old)
-        (λ file. Stands engine.new (first_frames rendering.now.from file k) × IsBroken rendering.now engine.old.graph file k (F.held folder.old) (F.held folder.new)) }
+    ensures broken { result ≡ Fails Fault.Write
+        → (k : ℕ) × (k ≤ all_frames rendering.now.from) × HeldBytes rendering.now.from.name.now (F.held folder.old)
+        (λ file. Stands engine.new (first_frames rendering.now.from file k)
+        × IsBroken rendering.now engine.old.graph file k (F.held folder.old) (F.held folder.new)) }
     ensures write_failed { result ≡ Fails Fault.Write → Rose (F.write_faults folder.old) (F.write_faults folder.new) }
     ensures reads { F.read_faults folder.old ≤ F.read_faults folder.new }
     ensures writes { F.write_faults folder.old ≤ F.write_faults folder.new }

@@ -21,7 +21,8 @@ fn records_under<F: Folder>(alloc: Global, folder: &mut F, name: &str) -> Result
     ensures held { F.held folder.new ≡ F.held folder.old }
     ensures fits { IfOk result Fits }
     ensures ok { IfOk result (λ g. FindsRecords name.now g (F.held folder.old)) }
-    ensures stops { IfErr result (Stops (IsGraphEnd name.now (F.held folder.old)) (Rose (F.read_faults folder.old) (F.read_faults folder.new))) }
+    ensures stops { IfErr result (Stops (IsGraphEnd name.now (F.held folder.old))
+        (Rose (F.read_faults folder.old) (F.read_faults folder.new))) }
     ensures early { IfErr result IsOfFiles }
     ensures reads { F.read_faults folder.old ≤ F.read_faults folder.new }
     ensures writes { F.write_faults folder.new ≡ F.write_faults folder.old }
@@ -57,7 +58,8 @@ pub fn graph_under<F: Folder>(alloc: Global, folder: &mut F, name: &str) -> Resu
     ensures held { F.held folder.new ≡ F.held folder.old }
     ensures ok { IfOk result (λ g. FindsGraph name.now g (F.held folder.old)) }
     ensures sound { IfOk result IsSound }
-    ensures stops { IfErr result (Stops (IsGraphEnd name.now (F.held folder.old)) (Rose (F.read_faults folder.old) (F.read_faults folder.new))) }
+    ensures stops { IfErr result (Stops (IsGraphEnd name.now (F.held folder.old))
+        (Rose (F.read_faults folder.old) (F.read_faults folder.new))) }
     ensures early { IfErr result IsOfFiles }
     ensures reads { F.read_faults folder.old ≤ F.read_faults folder.new }
     ensures writes { F.write_faults folder.new ≡ F.write_faults folder.old }

@@ -22,7 +22,8 @@ pub(crate) fn load<F: Folder>(
 ) -> Result<Vec<u8>, LoadFault>
     ensures held { F.held folder.new ≡ F.held folder.old }
     ensures bytes { IfOk result (λ v. Holds name.now v.items (F.held folder.old)) }
-    ensures failed { result ≡ Err LoadFault.Failed → IsMissing name.now (F.held folder.old) ⊎ Rose (F.read_faults folder.old) (F.read_faults folder.new) }
+    ensures failed { result ≡ Err LoadFault.Failed
+        → IsMissing name.now (F.held folder.old) ⊎ Rose (F.read_faults folder.old) (F.read_faults folder.new) }
     ensures reads { F.read_faults folder.old ≤ F.read_faults folder.new }
     ensures writes { F.write_faults folder.new ≡ F.write_faults folder.old }
 {

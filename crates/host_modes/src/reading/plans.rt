@@ -18,7 +18,8 @@ use std::alloc::Global;
 pub fn plan_under<F: Folder>(alloc: Global, folder: &mut F, name: &str) -> Result<Plan, End>
     ensures held { F.held folder.new ≡ F.held folder.old }
     ensures ok { IfOk result (λ plan. FindsPlan name.now plan (F.held folder.old)) }
-    ensures stops { IfErr result (Stops (IsTextEnd name.now (F.held folder.old)) (Rose (F.read_faults folder.old) (F.read_faults folder.new))) }
+    ensures stops { IfErr result (Stops (IsTextEnd name.now (F.held folder.old))
+        (Rose (F.read_faults folder.old) (F.read_faults folder.new))) }
     ensures early { IfErr result IsOfFiles }
     ensures reads { F.read_faults folder.old ≤ F.read_faults folder.new }
     ensures writes { F.write_faults folder.new ≡ F.write_faults folder.old }

@@ -35,7 +35,8 @@ fn head_under<F: Folder>(folder: &mut F, graph: &Checked, name: &str) -> Result<
     ensures ok { IfOk result (λ h. FindsHead name.now graph.now h (F.held folder.old)) }
     ensures head { IfOk result (λ h. IsHead h × (h.channels ≡ in_channels graph.now)) }
     ensures there { IfOk result (λ h. ¬ IsPast name.now (h.from + data_size h) (F.held folder.old)) }
-    ensures stops { IfErr result (Stops (IsHeadEnd name.now graph.now (F.held folder.old)) (Rose (F.read_faults folder.old) (F.read_faults folder.new))) }
+    ensures stops { IfErr result (Stops (IsHeadEnd name.now graph.now (F.held folder.old))
+        (Rose (F.read_faults folder.old) (F.read_faults folder.new))) }
     ensures early { IfErr result IsOfFiles }
     ensures reads { F.read_faults folder.old ≤ F.read_faults folder.new }
     ensures writes { F.write_faults folder.new ≡ F.write_faults folder.old }
@@ -80,7 +81,8 @@ pub(crate) fn input_under<F: Folder>(
     ensures input { IfOk result (λ i. IsInputOf (render_said request.now) graph.now i.head (F.held folder.old)) }
     ensures short { IfOk result (λ i. written_frames i.form * (i.form.channels * (i.form.bits / 8)) ≤ most_data) }
     ensures few { IfOk result (λ i. (i.form.frames ≤ 2 ^ 33) × (i.form.skipped ≤ i.form.frames)) }
-    ensures stops { IfErr result (Stops (IsInputEnd (render_said request.now) graph.now (F.held folder.old)) (Rose (F.read_faults folder.old) (F.read_faults folder.new))) }
+    ensures stops { IfErr result (Stops (IsInputEnd (render_said request.now) graph.now (F.held folder.old))
+        (Rose (F.read_faults folder.old) (F.read_faults folder.new))) }
     ensures early { IfErr result IsOfFiles }
     ensures reads { F.read_faults folder.old ≤ F.read_faults folder.new }
     ensures writes { F.write_faults folder.new ≡ F.write_faults folder.old }
