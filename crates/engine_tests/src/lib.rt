@@ -1,5 +1,5 @@
-//! Tests of `engine` beside the definition: in whatever blocks an input comes, one node a wave or in waves, an engine
-//! gives what `renderer` finds of the whole input. And that two nodes of one wave run beside each other inside one
+//! Tests of what `renderer` finds of whole inputs, and of `engine` beside it: in whatever blocks an input comes, one
+//! node a wave or in waves, an engine gives the same. And that two nodes of one wave run beside each other inside one
 //! block.
 //!
 //! It has no code but tests.
