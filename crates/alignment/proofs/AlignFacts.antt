@@ -48,9 +48,9 @@ use Rattle.alignment.proofs.LinkFacts.{all_links, all_links_map, live_link}
 use Rattle.alignment.proofs.NetworkFacts.{network_is_one}
 use Rattle.alignment.proofs.NumberedLaws as numbered
 use Rattle.alignment.proofs.NumberedLaws.{from_zero_is}
-use Rattle.alignment.proofs.PlaceLists.{are_named, stands_at, number_at, links_few, lines_same}
+use Rattle.alignment.proofs.PlaceListFacts.{are_named, stands_at, number_at, links_few, lines_same}
 use Rattle.alignment.proofs.PointFacts.{live_nodes_are, live_position}
-use Rattle.alignment.proofs.Solutions.{IsSolutionOf}
+use Rattle.alignment.proofs.SolutionFacts.{IsSolutionOf}
 use Rattle.alignment.proofs.ValueFacts.{live_is_named, value_after, point_within, rooted_is, is_alignment, ends_at_latency}
 
 unit_made : (u v n : ℕ) → ((unit_entry u v n).tail ≡ u) × ((unit_entry u v n).head ≡ v) × ((unit_entry u v n).units ≡ n)

@@ -1,12 +1,12 @@
-pub mod PlaceLists
+pub mod PlaceListFacts
 pub mod StepFacts
 pub mod ArcFacts
 pub mod ValueFacts
 pub mod PointFacts
 pub mod LinkFacts
-pub mod NetworkArcs
+pub mod NetworkArcFacts
 pub mod NetworkFacts
-pub mod Solutions
+pub mod SolutionFacts
 pub mod AlignFacts
 pub mod NumberedLaws
 pub mod SortedArcLaws

@@ -25,7 +25,7 @@ use Rattle.alignment.proofs.StepFacts.{joined_last}
 use Rattle.alignment.specs.Networks.{ArePoints, number_in}
 use Rattle.alignment.specs.Links.{links_from, links_of, link_of, arcs_to_root}
 use Rattle.alignment.specs.declared.links.Link.{Link}
-use Rattle.alignment.proofs.PlaceLists.{number_at}
+use Rattle.alignment.proofs.PlaceListFacts.{number_at}
 
 -- what is there is found
 pub found_there : (N : Type 0) (P : ℕ → Type 0) (o : Option ℕ) → MatchOption o (N → ⊥) P → N → IsSome o

@@ -41,8 +41,8 @@ use Rattle.alignment.specs.Networks.{ArePoints, IsNetworkOf, number_in}
 use Rattle.alignment.proofs.ArcFacts.{find_one}
 use Rattle.alignment.proofs.LinkFacts.{all_links_map}
 use Rattle.alignment.proofs.NeedLaws.{needs_by}
-use Rattle.alignment.proofs.NetworkArcs.{root_number}
-use Rattle.alignment.proofs.PlaceLists.{are_named, number_at}
+use Rattle.alignment.proofs.NetworkArcFacts.{root_number}
+use Rattle.alignment.proofs.PlaceListFacts.{are_named, number_at}
 use Rattle.alignment.proofs.SolvableLaws.{hop, joins, solvable}
 use Rattle.alignment.proofs.ValueFacts.{along_there, each_live, from_root_there, output_there}
 

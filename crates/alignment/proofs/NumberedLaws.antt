@@ -17,7 +17,7 @@ use Rattle.min_cost_flow.specs.Laws.{weighted}
 use Rattle.min_cost_flow.specs.declared.network.Arc.{Arc}
 use Rattle.plan_model.specs.Networks.{Difference, Terms, least_or_zero, arc_from_to, units_into, units_from, weight, Keeps, IsTightOn}
 use Rattle.plan_model.proofs.PlaceLaws.{has_item}
-use Rattle.plan_model.proofs.Saved.{Contains-from_map}
+use Rattle.plan_model.proofs.SavedLaws.{Contains-from_map}
 use Rattle.shortest_paths.specs.Walks.{number_of, from_zero}
 use Rattle.alignment.specs.Numbered.{number_by, name_by, named_by, entries_by, AreNames, AreArcsBy}
 

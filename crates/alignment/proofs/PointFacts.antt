@@ -19,13 +19,13 @@ use Rattle.plan_model.specs.Alignments.{position_in}
 use Rattle.plan_model.specs.Flows.{IsPoint}
 use Rattle.plan_model.specs.Rules.{AreLiveNodes}
 use Rattle.plan_model.specs.declared.alignment.At.{At}
-use Rattle.plan_model.proofs.Distinct.{Differ, differ_permuted}
+use Rattle.plan_model.proofs.DistinctFacts.{Differ, differ_permuted}
 use Rattle.plan_model.proofs.WaveLaws.{live_differ, kept}
 use Rattle.graph_model.proofs.LiveLaws.{live_by}
 use Rattle.shortest_paths.specs.Walks.{number_of, from_zero}
 use Rattle.alignment.specs.Networks.{ArePoints, number_in}
 use Rattle.alignment.specs.Places.{places_of}
-use Rattle.alignment.proofs.PlaceLists.{stands_at, zero_first, names_of, later_has, later_position}
+use Rattle.alignment.proofs.PlaceListFacts.{stands_at, zero_first, names_of, later_has, later_position}
 use Rattle.alignment.proofs.ValueFacts.{live_is_named}
 
 -- a list that never falls and has no item twice rises

@@ -26,7 +26,7 @@ use Rattle.plan_model.proofs.BestLaws.{best_same}
 use Rattle.plan_model.proofs.LastLaws.{output_is_last}
 use Rattle.plan_model.proofs.LatencyLaws.{few_frames_late}
 use Rattle.plan_model.proofs.NetworkLaws.{sum_by_map}
-use Rattle.plan_model.proofs.Saved.{Contains-from_map, Contains-map}
+use Rattle.plan_model.proofs.SavedLaws.{Contains-from_map, Contains-map}
 use Rattle.plan_model.proofs.SharedBestLaws.{lines_same, shared_total_same}
 use Rattle.plan_model.proofs.SharedCertifiedLaws.{sum_shared}
 use Rattle.plan_model.proofs.SharedLaws.{told_point, itself_point, every, reader}
@@ -43,14 +43,14 @@ use Rattle.alignment.specs.declared.values.Value.{Value}
 use Rattle.alignment.proofs.MirrorFacts.{value_live, value_named}
 use Rattle.alignment.proofs.NumberedLaws as numbered
 use Rattle.alignment.proofs.NumberedLaws.{from_zero_is}
-use Rattle.alignment.proofs.PlaceLists.{stands_at}
+use Rattle.alignment.proofs.PlaceListFacts.{stands_at}
 use Rattle.alignment.proofs.PointFacts.{live_nodes_are, live_position}
 use Rattle.alignment.proofs.SharedArcFacts.{live_number, mirror_is}
 use Rattle.alignment.proofs.SharedNetworkFacts.{shared_network_is_one}
 use Rattle.alignment.proofs.SortedArcLaws.{map_same_at}
 use Rattle.alignment.proofs.SharedPointFacts.{are_names, mirror_named}
 use Rattle.alignment.proofs.SharedSolutionFacts.{carried, value, stands, rises, root_value, node_from, mirror_from, beyond_along, is_flow, listed, bound_is, best, total_is, mirrors_are}
-use Rattle.alignment.proofs.Solutions.{IsSolutionOf}
+use Rattle.alignment.proofs.SolutionFacts.{IsSolutionOf}
 use Rattle.alignment.proofs.StepFacts.{in_frames}
 use Rattle.alignment.proofs.ValueListFacts.{few_values, at_place}
 

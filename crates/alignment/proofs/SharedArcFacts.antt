@@ -31,9 +31,9 @@ use Rattle.alignment.specs.Numbered.{name_by, number_by, numbered_by, AreArcsBy}
 use Rattle.alignment.specs.SharedNetworks.{shared_points, AreSharedArcs}
 use Rattle.alignment.specs.Values.{place_of_value}
 use Rattle.alignment.proofs.LinkFacts.{all_links_map, live_link}
-use Rattle.alignment.proofs.NetworkArcs as nodes
+use Rattle.alignment.proofs.NetworkArcFacts as nodes
 use Rattle.alignment.proofs.NumberedLaws as numbered
-use Rattle.alignment.proofs.PlaceLists.{stands_at, links_few}
+use Rattle.alignment.proofs.PlaceListFacts.{stands_at, links_few}
 use Rattle.alignment.proofs.SharedPointFacts.{are_names, node_named, mirror_named, shared_arc_found}
 use Rattle.alignment.proofs.ValueListFacts.{few_values, place_at, at_place}
 use Rattle.alignment.proofs.SortedArcLaws.{order, HasEnds, third, mapped, map_same_at, numbered_are, sorted_are, sorted_rise}

@@ -19,7 +19,7 @@ use Rattle.plan_model.specs.SharedFlows.{at_node, mirror, shared_terms, along_no
 use Rattle.plan_model.specs.declared.shared.Point.{Point}
 use Rattle.plan_model.proofs.LatencyLaws.{few_frames_late}
 use Rattle.plan_model.proofs.NetworkLaws.{all_append, all_map}
-use Rattle.plan_model.proofs.Saved.{Contains-from_map, Contains-map}
+use Rattle.plan_model.proofs.SavedLaws.{Contains-from_map, Contains-map}
 use Rattle.plan_model.proofs.SharedLaws.{told_point, itself_point, every, reader, keeps_shared, needs_of_node, needs_of_mirror}
 use Rattle.shortest_paths.specs.Walks.{IsWithin, Reaches}
 use Rattle.alignment.specs.Networks.{ArePoints}

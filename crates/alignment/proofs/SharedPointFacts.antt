@@ -15,14 +15,14 @@ use Rattle.plan_model.specs.SharedFlows.{at_node, mirror, same_point, shared_ter
 use Rattle.plan_model.specs.declared.shared.Point.{Point}
 use Rattle.plan_model.proofs.CertifiedLaws.{AllPairs_map}
 use Rattle.plan_model.proofs.NetworkLaws.{all_append, all_map}
-use Rattle.plan_model.proofs.Saved.{Contains-from_map, Contains-map}
+use Rattle.plan_model.proofs.SavedLaws.{Contains-from_map, Contains-map}
 use Rattle.plan_model.proofs.SharedLaws.{told_point, itself_point, every, names_in}
 use Rattle.plan_model.proofs.ValueLaws.{values_are_listed}
 use Rattle.alignment.specs.Networks.{ArePoints}
 use Rattle.alignment.specs.SharedNetworks.{shared_points}
 use Rattle.alignment.specs.Numbered.{name_by, AreNames}
 use Rattle.alignment.proofs.ArcFacts.{least_between, found_between, between_nodes, from_input, from_output, ends_differ, output_named}
-use Rattle.alignment.proofs.PlaceLists.{zero_first}
+use Rattle.alignment.proofs.PlaceListFacts.{zero_first}
 
 AllPairs_append : {X : Type 0} (R : X → X → Type 0) (xs ys : List X) → AllPairs R xs → AllPairs R ys → ((x y : X) → Contains xs x → Contains ys y → R x y) → AllPairs R (xs ++ ys)
 AllPairs_append R [] ys h k both = k

@@ -23,14 +23,14 @@ use Rattle.plan_model.specs.SharedFlows.{at_node, mirror, shared_terms, shared_n
 use Rattle.plan_model.specs.SharedLines.{IsBestShared, line_length, shared_total}
 use Rattle.plan_model.specs.declared.shared.Point.{Point}
 use Rattle.plan_model.specs.declared.shared.PointUnits.{PointUnits}
-use Rattle.plan_model.proofs.Saved.{Contains-from_map, Contains-map}
+use Rattle.plan_model.proofs.SavedLaws.{Contains-from_map, Contains-map}
 use Rattle.plan_model.proofs.SharedBestLaws.{shared_least_of_optima}
 use Rattle.plan_model.proofs.SharedLaws.{told_point, itself_point, reader}
 use Rattle.shortest_paths.specs.Walks.{number_of, from_zero}
 use Rattle.alignment.specs.SharedNetworks.{shared_points, point_entry, IsSharedNetworkOf}
 use Rattle.alignment.specs.Numbered.{name_by, number_by, entries_by, AreNames}
 use Rattle.alignment.proofs.NumberedLaws as numbered
-use Rattle.alignment.proofs.Solutions.{IsSolutionOf}
+use Rattle.alignment.proofs.SolutionFacts.{IsSolutionOf}
 use Rattle.alignment.proofs.SharedPointFacts.{shared_arc_found, in_order, are_names, node_named, mirror_named}
 use Rattle.graph_model.proofs.LiveLaws.{ends_live}
 use Rattle.alignment.proofs.ValueFacts.{live_listed}

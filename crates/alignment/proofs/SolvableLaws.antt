@@ -11,13 +11,13 @@ use Rattle.graph_model.proofs.HistoryLaws.{all_of}
 use Rattle.min_cost_flow.specs.Flow.{IsNetwork, HasNoPositiveCycle, length_of, total_of}
 use Rattle.min_cost_flow.specs.declared.network.Arc.{Arc}
 use Rattle.min_cost_flow.specs.declared.network.Network.{Network}
-use Rattle.min_cost_flow.proofs.NetworkLemmas.{connected_by_root, no_positive_cycle_from_potentials}
+use Rattle.min_cost_flow.proofs.NetworkLaws.{connected_by_root, no_positive_cycle_from_potentials}
 use Rattle.shortest_paths.specs.Walks.{IsWithin, Reaches}
 use Rattle.shortest_paths.specs.declared.edges.Edge.{Edge}
-use Rattle.shortest_paths.proofs.WalkLemmas.{IsWalk-append}
+use Rattle.shortest_paths.proofs.WalkLaws.{IsWalk-append}
 use Rattle.plan_model.specs.Networks.{Difference, Terms, links_needed, Keeps}
-use Rattle.plan_model.proofs.Below.{count_by-le_one, count_by_at}
-use Rattle.plan_model.proofs.Saved.{Contains-from_map, Contains-map}
+use Rattle.plan_model.proofs.BelowFacts.{count_by-le_one, count_by_at}
+use Rattle.plan_model.proofs.SavedLaws.{Contains-from_map, Contains-map}
 use Rattle.plan_model.proofs.SumLaws.{sum_none, sum_same}
 use Rattle.alignment.specs.Numbered.{number_by, name_by, named_by, AreNames, AreArcsBy}
 

@@ -14,7 +14,7 @@ use Rattle.std.proofs.lemmas.Map.Keys.{Less-from_sorted}
 use Rattle.min_cost_flow.specs.declared.network.Arc.{Arc}
 use Rattle.plan_model.specs.Networks.{Difference, Terms, least_or_zero, arc_from_to}
 use Rattle.plan_model.specs.Pairs.{ComesBefore}
-use Rattle.plan_model.proofs.Saved.{Contains-from_map, Contains-map}
+use Rattle.plan_model.proofs.SavedLaws.{Contains-from_map, Contains-map}
 use Rattle.alignment.specs.Numbered.{number_by, name_by, named_by, numbered_by, AreArcsBy}
 use Rattle.alignment.proofs.NumberedLaws.{stands_by}
 

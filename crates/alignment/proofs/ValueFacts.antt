@@ -21,7 +21,7 @@ use Rattle.plan_model.specs.Networks.{Difference}
 use Rattle.plan_model.proofs.DualityLaws.{rooted_at}
 use Rattle.graph_model.proofs.LiveLaws.{ends_live, live_test, output_live}
 use Rattle.plan_model.proofs.ExampleTools.{listed}
-use Rattle.plan_model.proofs.Saved.{Contains-map}
+use Rattle.plan_model.proofs.SavedLaws.{Contains-map}
 use Rattle.plan_model.proofs.ShiftLaws.{reach_least}
 
 -- ---- live nodes of a sound graph

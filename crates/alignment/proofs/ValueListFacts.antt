@@ -24,7 +24,7 @@ use Rattle.topology.proofs.LinkFacts.{connection_at}
 use Rattle.plan_model.specs.Lives.{Port, source, IsBefore, AreValues, values, with_port, sources_of}
 use Rattle.plan_model.specs.Places.{same_port}
 use Rattle.plan_model.proofs.CertifiedLaws.{AllPairs_map}
-use Rattle.plan_model.proofs.Saved.{Contains-from_map, Contains-map}
+use Rattle.plan_model.proofs.SavedLaws.{Contains-from_map, Contains-map}
 use Rattle.plan_model.proofs.SharedLaws.{value_of}
 use Rattle.plan_model.proofs.UniqueLaws.{values_are_unique}
 use Rattle.plan_model.proofs.ValueLaws.{values_are_listed}

@@ -11,10 +11,10 @@ use Rattle.plan_model.specs.Buffers.{is_born, is_born_of, is_freed, need_of_wave
 use Rattle.plan_model.specs.Rules.{IsPeak}
 use Rattle.plan_model.specs.declared.buffers.Home.{Home}
 use Rattle.plan_model.specs.declared.buffers.Life.{Life}
-use Rattle.plan_model.proofs.Counts.{bit, is_before}
-use Rattle.plan_model.proofs.Below.{sum_below-same}
-use Rattle.plan_model.proofs.LowerBound.{saved_below, count_by-map, alive_le_buffers, turn_share}
-use Rattle.plan_model.proofs.Saved.{Rising, need_is, All-from_map}
+use Rattle.plan_model.proofs.CountFacts.{bit, is_before}
+use Rattle.plan_model.proofs.BelowFacts.{sum_below-same}
+use Rattle.plan_model.proofs.LowerBoundLaws.{saved_below, count_by-map, alive_le_buffers, turn_share}
+use Rattle.plan_model.proofs.SavedLaws.{Rising, need_is, All-from_map}
 use Rattle.plan_model.proofs.CertifiedLaws.{need_le}
 use Rattle.buffer_plan.specs.Packed.{active, saved_by, IsPacked, home_of}
 use Rattle.buffer_plan.specs.declared.packing.Placed.{Placed}

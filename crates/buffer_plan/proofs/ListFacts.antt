@@ -5,8 +5,8 @@ use Rattle.std.proofs.lemmas.Bool.{cond-true, cases_lt, cases_eq, lt-ltb}
 use Rattle.std.proofs.lemmas.Option.{none-some}
 use Rattle.std.proofs.lemmas.List.{get_or_append_left, get_or_push, length_push}
 use Rattle.std.proofs.lemmas.List.Sums.{fails_before_first, sum_by_push, sum_by-set}
-use Rattle.plan_model.proofs.Counts.{bit, sum_below}
-use Rattle.plan_model.proofs.Below.{sum_below-same, count_by-cons}
+use Rattle.plan_model.proofs.CountFacts.{bit, sum_below}
+use Rattle.plan_model.proofs.BelowFacts.{sum_below-same, count_by-cons}
 
 module _ {X : Type 0} where
   pub count_by_push : (p : X → Bool) (xs : List X) (y : X) → count_by p (xs ++ y ∷ []) ≡ count_by p xs + bit (p y)

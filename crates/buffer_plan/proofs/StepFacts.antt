@@ -11,10 +11,10 @@ use Rattle.std.proofs.lemmas.Option.{none-some}
 use Rattle.graph_model.specs.declared.graph.Uid.{Uid}
 use Rattle.plan_model.specs.Buffers.{is_born, is_reader, is_born_of, is_freed, Follows, MayShare}
 use Rattle.plan_model.specs.declared.buffers.Life.{Life}
-use Rattle.plan_model.proofs.Below.{sum_below-same, sum_below-zero, count_by-cons, count_by_none, count_by_at}
-use Rattle.plan_model.proofs.Counts.{bit, is_before}
-use Rattle.plan_model.proofs.LowerBound.{alive_le_buffers}
-use Rattle.plan_model.proofs.Saved.{All-from_map}
+use Rattle.plan_model.proofs.BelowFacts.{sum_below-same, sum_below-zero, count_by-cons, count_by_none, count_by_at}
+use Rattle.plan_model.proofs.CountFacts.{bit, is_before}
+use Rattle.plan_model.proofs.LowerBoundLaws.{alive_le_buffers}
+use Rattle.plan_model.proofs.SavedLaws.{All-from_map}
 use Rattle.buffer_plan.specs.Packed.{is_alive, active, borne, freed, saved_by, first_free, IsPacked}
 use Rattle.buffer_plan.specs.declared.packing.Placed.{Placed}
 use Rattle.buffer_plan.proofs.ListFacts.{count_by_push, count_by-set, count_by_all, All-push_front, All-push_last, position_none, sum_below_bump}

@@ -4,7 +4,7 @@ use Rattle.std.specs.Option.{option_or}
 use Rattle.plan_model.specs.Buffers.{is_born, is_born_of, is_freed, MayShare}
 use Rattle.plan_model.specs.declared.buffers.Home.{Home}
 use Rattle.plan_model.specs.declared.buffers.Life.{Life}
-use Rattle.plan_model.proofs.Counts.{sum_below, is_before}
+use Rattle.plan_model.proofs.CountFacts.{sum_below, is_before}
 use Rattle.buffer_plan.specs.declared.packing.Placed.{Placed}
 
 -- the buffer that a value takes: the first that it takes over in place, or else the first whose value died before

@@ -1,3 +1,3 @@
 pub mod TakenLaws
-pub mod Numerals
+pub mod NumeralFacts
 pub mod RangeLaws

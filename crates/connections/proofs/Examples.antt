@@ -24,7 +24,7 @@ use Rattle.connections.specs.Laws.{without_walk}
 use Rattle.connections.specs.declared.fault.GraphFault.{GraphFault}
 use Rattle.connections.specs.declared.fault.GraphFault.TheVariants.{UidTwice, KindField, Ends, NoSuchNode, SelfConnection, ChannelRange, Twice, Cycle}
 use Rattle.connections.proofs.FaultFacts.{fails, all_checks, stage}
-use Rattle.connections.proofs.FirstFaults.{first_fault_is_unique}
+use Rattle.connections.proofs.FirstFaultLaws.{first_fault_is_unique}
 
 abbrev uid : ℕ → Uid
 uid v = record { 0 = v }

@@ -3,7 +3,7 @@ pub mod JointFacts
 pub mod PlaceFacts
 pub mod LimitFacts
 pub mod FaultFacts
-pub mod FirstFaults
+pub mod FirstFaultLaws
 pub mod Examples
 pub mod EndFacts
 pub mod LatencyFacts

@@ -1,3 +1,3 @@
 pub mod LineLaws
-pub mod Passed
+pub mod PassedFacts
 pub mod ViewLaws

@@ -22,18 +22,18 @@ use Rattle.plan_model.proofs.CertifiedLaws.{alignment_of}
 use Rattle.plan_model.proofs.ShiftLaws.{later_by}
 use Rattle.orders.specs.Orders as core
 use Rattle.graph_model.specs.Streams.{in_at, out_at, tap}
-use Rattle.engine_model.proofs.Blocks.{frame_at}
+use Rattle.engine_model.proofs.BlockLaws.{frame_at}
 use Rattle.engine_model.specs.Machines.{Kept, machine}
 use Rattle.engine_model.specs.States.{came_at, kept_at}
 use Rattle.engine_model.specs.Engines.{Job as Seen, Stands, JobStands, Answers}
 use Rattle.engine_model.specs.Events.{JobIsLeft, IsLeftBy, AnyOrder, state_of, after_orders}
-use Rattle.graph_model.proofs.StreamTimes.{sums_are}
-use Rattle.engine_model.proofs.Blocks.{before_frames_append, frames_are}
-use Rattle.engine_model.proofs.Renders.{get_or-before, frame_after}
+use Rattle.graph_model.proofs.StreamTimeLaws.{sums_are}
+use Rattle.engine_model.proofs.BlockLaws.{before_frames_append, frames_are}
+use Rattle.engine_model.proofs.RenderLaws.{get_or-before, frame_after}
 use Rattle.engine_model.proofs.OrderLaws.{one_thread, some_order, blocks_run}
 use Rattle.engine_model.proofs.EngineLaws.{orders_give}
-use Rattle.engine_model.proofs.StateTimes.{state_by_time}
-use Rattle.engine_model.proofs.Plans.{schedule}
+use Rattle.engine_model.proofs.StateTimeLaws.{state_by_time}
+use Rattle.engine_model.proofs.PlanLaws.{schedule}
 use Rattle.pool_waves.specs.declared.job.Job.{Job}
 use Rattle.players.specs.declared.leaving.Leaving.{Leaving}
 use Rattle.players.specs.declared.playing.Player.{Player}

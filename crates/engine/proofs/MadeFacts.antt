@@ -18,8 +18,8 @@ use Rattle.plan_model.proofs.ExampleTools.{listed}
 use Rattle.graph_model.proofs.NodeFacts.{has_place}
 use Rattle.engine_model.specs.Engines.{Job as Seen, Stands, JobStands}
 use Rattle.engine_model.specs.Machines.{windows_on, delays_into}
-use Rattle.engine_model.proofs.NewJobs.{new_stand}
-use Rattle.engine_model.proofs.StateTimes.{windows_are}
+use Rattle.engine_model.proofs.NewJobLaws.{new_stand}
+use Rattle.engine_model.proofs.StateTimeLaws.{windows_are}
 use Rattle.engine.specs.Views.{seen, parts_of}
 use Rattle.engine.specs.Working.{IsWorking}
 use Rattle.engine.specs.declared.shape.Shape.{Shape}
@@ -30,7 +30,7 @@ use Rattle.graph_model.specs.declared.graph.Graph.{Graph}
 use Rattle.plan_model.specs.Certified.{IsCertified, positions}
 use Rattle.plan_model.specs.Schedules.{names}
 use Rattle.plan_model.specs.declared.plan.Plan.{Plan}
-use Rattle.engine_model.proofs.Plans.{schedule}
+use Rattle.engine_model.proofs.PlanLaws.{schedule}
 use Rattle.pool_waves.specs.declared.job.Job.{Job}
 use Rattle.players.specs.declared.playing.Player.{Player}
 use Rattle.plan_jobs.specs.Blocks.{AreEnds, all_nodes}

@@ -34,11 +34,11 @@ use Rattle.engine_model.specs.Machines.{Kept}
 use Rattle.engine_model.specs.Engines.{JobStands, came_in, gone_into}
 use Rattle.engine_model.specs.Events.{JobIsLeft, came_of}
 use Rattle.engine_model.specs.Machines.{windows_on, delays_into}
-use Rattle.graph_model.proofs.StreamTimes.{length-incoming}
-use Rattle.engine_model.proofs.StateTimes.{windows_are}
-use Rattle.engine_model.proofs.Inputs.{inputs_are}
-use Rattle.engine_model.proofs.Plans.{schedule}
-use Rattle.engine_model.proofs.Runs.{some_node}
+use Rattle.graph_model.proofs.StreamTimeLaws.{length-incoming}
+use Rattle.engine_model.proofs.StateTimeLaws.{windows_are}
+use Rattle.engine_model.proofs.InputLaws.{inputs_are}
+use Rattle.engine_model.proofs.PlanLaws.{schedule}
+use Rattle.engine_model.proofs.RunLaws.{some_node}
 use Rattle.pool_waves.specs.declared.job.Home.{Home}
 use Rattle.players.specs.declared.gathering.Wire.{Wire}
 use Rattle.players.specs.declared.leaving.Leaving.{Leaving}

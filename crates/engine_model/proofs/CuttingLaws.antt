@@ -11,7 +11,7 @@ use Rattle.graph_model.specs.Sound.{IsSound}
 use Rattle.graph_model.proofs.AnswerLaws.{in-causal}
 use Rattle.graph_model.proofs.BlockLaws.{frames_of-append}
 use Rattle.graph_model.proofs.NodeFacts.{input_some}
-use Rattle.graph_model.proofs.StreamTimes.{length-incoming}
+use Rattle.graph_model.proofs.StreamTimeLaws.{length-incoming}
 use Rattle.engine_model.specs.Engines.{Parts, Stands, ins, outs}
 use Rattle.engine_model.specs.Cuttings.{HasRendered, inputs, outputs, NoCuttingShows, OutputsAreAnswers}
 use Rattle.engine_model.proofs.OutputFacts.{output_some}

@@ -24,7 +24,7 @@ use Rattle.plan_model.specs.declared.plan.Plan.{Plan}
 use Rattle.plan_model.specs.declared.rule.Rule.TheVariants.{Latency}
 use Rattle.plan_model.proofs.CertifiedLaws.{alignment_of}
 use Rattle.plan_model.proofs.ExampleTools.{listed}
-use Rattle.plan_model.proofs.Saved.{Contains-map}
+use Rattle.plan_model.proofs.SavedLaws.{Contains-map}
 use Rattle.plan_model.proofs.ShiftLaws.{later_by, latency_is_reach}
 use Rattle.engine_model.specs.Machines.{Kept, delays_into, windows_on}
 use Rattle.engine_model.specs.States.{kept_at}
@@ -33,10 +33,10 @@ use Rattle.engine_model.specs.Events.{JobIsLeft, IsLeftBy, AnyOrder, came_of, st
 use Rattle.engine_model.specs.Laws.{OrdersGiveAnswers}
 use Rattle.engine_model.proofs.OrderLaws.{one_thread, some_order}
 use Rattle.engine_model.proofs.OutputFacts.{output_node}
-use Rattle.engine_model.proofs.Plans.{schedule}
-use Rattle.engine_model.proofs.Renders.{after_histories}
-use Rattle.engine_model.proofs.Runs.{block_runs, some_node}
-use Rattle.engine_model.proofs.StateTimes.{state_by_time, windows_are}
+use Rattle.engine_model.proofs.PlanLaws.{schedule}
+use Rattle.engine_model.proofs.RenderLaws.{after_histories}
+use Rattle.engine_model.proofs.RunLaws.{block_runs, some_node}
+use Rattle.engine_model.proofs.StateTimeLaws.{state_by_time, windows_are}
 
 shifted_none : (m : ℕ) (h : History) → shifted 0 m h ≡ h
 shifted_none m h = let e : min 0 (length h) ≡ 0 = omega arith in ap (λ k. h ++ silence k m) e ∙ append-nil h

@@ -13,9 +13,9 @@ use Rattle.orders.specs.Orders as core
 use Rattle.graph_model.specs.Streams.{on, in_at, out_at, tap}
 use Rattle.engine_model.specs.Machines.{Kept, sum_on, passed_then, taps, summed, channels_into, delays_into, taken, takes_in, made, machine, sources}
 use Rattle.engine_model.specs.States.{came_at, kept_at}
-use Rattle.graph_model.proofs.StreamTimes.{streams_are}
-use Rattle.engine_model.proofs.Lines.{shown}
-use Rattle.engine_model.proofs.Steps.{sums_step}
+use Rattle.graph_model.proofs.StreamTimeLaws.{streams_are}
+use Rattle.engine_model.proofs.LineFacts.{shown}
+use Rattle.engine_model.proofs.StepFacts.{sums_step}
 
 into_lines : (f : Connection → ℤ) (h : Connection → List ℤ) (cs : List Connection) → passed_then (map f cs) (map h cs) ≡ map (λ c. f c ∷ h c) cs
 into_lines f h [] = refl

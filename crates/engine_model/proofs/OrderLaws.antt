@@ -7,14 +7,14 @@ use Rattle.std.proofs.lemmas.List.Elements.{All-head, All-tail}
 use Rattle.plan_model.specs.Certified.{positions}
 use Rattle.plan_model.specs.Schedules.{names}
 use Rattle.plan_model.specs.declared.schedule.Wave.{Wave}
-use Rattle.plan_model.proofs.Distinct.{Differ, differ_rising}
+use Rattle.plan_model.proofs.DistinctFacts.{Differ, differ_rising}
 use Rattle.orders.specs.Orders as core
-use Rattle.orders.proofs.Counts.{all_same}
-use Rattle.orders.proofs.InTurn.{order_exists}
+use Rattle.orders.proofs.CountLaws.{all_same}
+use Rattle.orders.proofs.InTurnLaws.{order_exists}
 use Rattle.engine_model.specs.Machines.{machine}
 use Rattle.engine_model.specs.Laws.{BlocksRun, OrdersNeverShow}
-use Rattle.engine_model.proofs.Plans.{of_is_in}
-use Rattle.engine_model.proofs.Runs.{block_runs, all_apart}
+use Rattle.engine_model.proofs.PlanLaws.{of_is_in}
+use Rattle.engine_model.proofs.RunLaws.{block_runs, all_apart}
 
 distinct : (vs : List ℕ) → Differ vs → core.AreDistinct vs
 distinct [] d = tt

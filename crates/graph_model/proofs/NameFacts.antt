@@ -7,7 +7,7 @@ use Rattle.std.proofs.lemmas.Bool.{cases_lt, cases_eq}
 use Rattle.std.proofs.lemmas.List.Folds.{find_at}
 use Rattle.std.proofs.lemmas.List.Sums.{position_or_len_is}
 use Rattle.std.proofs.lemmas.Option.{slice_get-get_or}
-use Rattle.graph_model.proofs.Common.{not_same}
+use Rattle.graph_model.proofs.CommonFacts.{not_same}
 use Rattle.graph_model.specs.Graphs.{node_named, IsNode, latency_at, or_zero}
 use Rattle.graph_model.specs.Kinds.{latency_of}
 use Rattle.graph_model.specs.declared.kind.Kind.TheVariants.{Input}

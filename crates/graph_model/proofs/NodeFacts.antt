@@ -25,7 +25,7 @@ use Rattle.graph_model.specs.declared.graph.Node.{Node}
 use Rattle.graph_model.specs.declared.graph.Connection.{Connection}
 use Rattle.graph_model.specs.declared.graph.Graph.{Graph}
 use Rattle.graph_model.specs.Named.{IsNamed, uid_at}
-use Rattle.graph_model.proofs.Common.{none_is_some, some_same}
+use Rattle.graph_model.proofs.CommonFacts.{none_is_some, some_same}
 use Rattle.graph_model.proofs.NameFacts.{named_there, node_is}
 
 -- ---- what is found in a list

@@ -8,7 +8,7 @@ use Rattle.graph_model.specs.Bounds.{IsWithin}
 use Rattle.graph_model.specs.Histories.{Frame, History, before, channel, frame_in, on_each, stream}
 use Rattle.graph_model.specs.Kernels.{IsFrameWithin}
 use Rattle.graph_model.proofs.BlockLaws.{length-before, row_within, sample_in}
-use Rattle.graph_model.proofs.Common.{by_lt}
+use Rattle.graph_model.proofs.CommonFacts.{by_lt}
 use Rattle.graph_model.proofs.StreamFacts.{frame_within}
 
 -- ---- the stream of a history that goes on with a block

@@ -13,7 +13,7 @@ use Rattle.graph_model.specs.Answers.{given_by}
 use Rattle.graph_model.specs.declared.kind.Kind.{Kind}
 use Rattle.graph_model.specs.declared.kind.Kind.TheVariants.{Input, Output, Gain, Mixer, Fir, Biquad, Limiter, Delay, Insert}
 use Rattle.graph_model.specs.Kernels.{IsFrameWithin}
-use Rattle.graph_model.proofs.Interleaving.{AreWide, wide-each}
+use Rattle.graph_model.proofs.InterleavingLaws.{AreWide, wide-each}
 
 -- ---- whole frames
 pub frames_whole : (l k : ℕ) → l % k ≡ 0 → l ≡ l / k * k

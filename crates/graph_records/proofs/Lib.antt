@@ -1,6 +1,6 @@
-pub mod Lists
-pub mod FitLemmas
-pub mod WrittenLists
-pub mod PlainTexts
-pub mod ReadBack
+pub mod ListFacts
+pub mod FitFacts
+pub mod WrittenListFacts
+pub mod PlainTextFacts
+pub mod ReadBackLaws
 pub mod Examples

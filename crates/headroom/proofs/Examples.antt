@@ -14,7 +14,7 @@ use Rattle.topology.proofs.Examples.{fan_out}
 use Rattle.headroom.specs.declared.loud.TooLoud.{TooLoud}
 use Rattle.headroom.specs.Answers.{AreBounds, AllBounded}
 use Rattle.headroom.specs.Loud.{IsTooLoud}
-use Rattle.headroom.proofs.GraphTests.{below_by, all_bounded_by, too_loud_by}
+use Rattle.headroom.proofs.GraphTestFacts.{below_by, all_bounded_by, too_loud_by}
 use Rattle.headroom.proofs.LoudFacts.{too_loud_refutes, too_loud_is_unique}
 
 -- ---- the graphs

@@ -9,7 +9,7 @@ use Rattle.std.proofs.lemmas.List.Folds.{find_at}
 use Rattle.std.proofs.lemmas.List.FromFn.{get_or-map-range_with_len, length-map-range_with_len}
 use Rattle.std.proofs.lemmas.List.Sums.{sum_by-cons, sum_by-append, position_or_len_is}
 use Rattle.std.proofs.lemmas.Option.{slice_get-get_or}
-use Rattle.graph_model.proofs.Common.{not_same}
+use Rattle.graph_model.proofs.CommonFacts.{not_same}
 use Rattle.graph_model.specs.Bounds.{bounds, IsBounded}
 use Rattle.graph_model.specs.Graphs.{node_named, ins_at, or_zero, connections_to}
 use Rattle.graph_model.specs.Members.{bad_member}

@@ -1,5 +1,5 @@
 pub mod OutputFacts
 pub mod LoudFacts
 pub mod FoundFacts
-pub mod GraphTests
+pub mod GraphTestFacts
 pub mod Examples

@@ -11,7 +11,7 @@ use Rattle.graph_model.specs.declared.graph.Node.{Node}
 use Rattle.graph_model.specs.declared.graph.Graph.{Graph}
 use Rattle.graph_model.specs.declared.graph.Side.{Side}
 use Rattle.graph_model.specs.declared.graph.Side.TheVariants.{Source, Destination, In, Out}
-use Rattle.graph_model.proofs.OrderOnce.{order_once}
+use Rattle.graph_model.proofs.OrderOnceLaws.{order_once}
 use Rattle.graph_model.proofs.NameFacts.{same_uid}
 use Rattle.headroom.specs.declared.loud.TooLoud.{TooLoud}
 use Rattle.headroom.specs.Loud.{kept, AreBelow, IsFirstAbove, IsFirstOf, IsTooLoud}

@@ -14,7 +14,7 @@ use Rattle.graph_model.proofs.BlockLaws.{length-frames_of}
 use Rattle.graph_gen.specs.Draws.{samples_drawn}
 use Rattle.graph_gen.specs.Generated.{generated}
 use Rattle.graph_gen.proofs.SampleFacts.{samples_are_input}
-use Rattle.graph_gen.proofs.Soundness.{generated_is_as_wanted}
+use Rattle.graph_gen.proofs.SoundnessLaws.{generated_is_as_wanted}
 use Rattle.plan_model.specs.Certified.{IsCertified}
 use Rattle.plan_model.specs.declared.plan.Plan.{Plan}
 use Rattle.plan_model.proofs.LatencyLaws.{few_frames_late}

@@ -1,7 +1,7 @@
 mod FileLaws
 mod OutputLaws
 mod EndLaws
-pub mod EndOnce
+pub mod EndOnceLaws
 mod RunLaws
 mod DemoLaws
 mod RenderLaws

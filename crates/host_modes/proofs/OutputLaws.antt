@@ -9,7 +9,7 @@ use Rattle.graph_model.specs.Paths.{reach}
 use Rattle.graph_model.specs.declared.graph.Graph.{Graph}
 use Rattle.graph_model.proofs.BlockLaws.{frames_of-append, interleaved_are_frames}
 use Rattle.graph_model.proofs.HistoryLaws.{length-history_of}
-use Rattle.graph_model.proofs.Interleaving.{length-interleaved, wide-history_of}
+use Rattle.graph_model.proofs.InterleavingLaws.{length-interleaved, wide-history_of}
 use Rattle.wav_pcm.specs.Heads.{most_data}
 use Rattle.wav_pcm.specs.Samples.{IsSize}
 use Rattle.wav_pcm.specs.declared.head.Head.{Head}

@@ -7,7 +7,7 @@ use Rattle.gh_outside.specs.Causes.{Rose}
 use Rattle.gh_outside.specs.Holdings.{Holding, HeldBytes, Holds, IsMissing, IsPast, KeepsOthers}
 use Rattle.graph_model.specs.Histories.{before, frame_in, frames_of}
 use Rattle.wav_pcm.specs.Files.{data_size}
-use Rattle.wav_pcm.proofs.Told.{told_always, told_more}
+use Rattle.wav_pcm.proofs.ToldLaws.{told_always, told_more}
 use Rattle.engine_model.specs.Engines.{Parts, Stands}
 use Rattle.streaming.specs.Appends.{IsAppended, IsPart, IsPartAppended}
 use Rattle.streaming.specs.Blocks.{all_frames, all_samples, answer_put, first_frames, HasPut, HasPutPart, MayStream}

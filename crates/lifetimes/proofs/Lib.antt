@@ -1,5 +1,5 @@
 mod WaveFacts
-mod ReadOrder
+mod ReadOrderFacts
 mod JoinedFacts
 mod LifeFacts
 mod LineFacts

@@ -23,7 +23,7 @@ use Rattle.plan_model.specs.declared.schedule.Wave.{Wave}
 use Rattle.plan_model.specs.declared.buffers.Life.{Life}
 use Rattle.plan_model.proofs.CertifiedLaws.{AllPairs_map, are_lives}
 use Rattle.plan_model.proofs.LifeLaws.{found_life}
-use Rattle.plan_model.proofs.Saved.{Contains-map, Contains-from_map}
+use Rattle.plan_model.proofs.SavedLaws.{Contains-map, Contains-from_map}
 use Rattle.plan_model.proofs.UniqueLaws.{values_are_unique}
 use Rattle.plan_model.proofs.ValueLaws.{values_are_listed}
 use Rattle.plan_model.proofs.WaveLaws.{each_entry}

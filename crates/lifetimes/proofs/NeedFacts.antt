@@ -9,10 +9,10 @@ use Rattle.std.proofs.lemmas.List.Elements.{All-contains, All-head, All-tail}
 use Rattle.std.proofs.lemmas.List.Sums.{count_by-le-length, get_or-le-sum_by}
 use Rattle.plan_model.specs.Buffers.{is_born, is_dying, is_born_of, is_freed, need_of_wave, AreLives}
 use Rattle.plan_model.specs.declared.buffers.Life.{Life}
-use Rattle.plan_model.proofs.Below.{count_by-cons, count_by_keys, count_by_none, sum_below-le, sum_below-same}
-use Rattle.plan_model.proofs.Counts.{bit, is_before}
-use Rattle.plan_model.proofs.LowerBound.{saved_below}
-use Rattle.plan_model.proofs.Saved.{Rising, need_is}
+use Rattle.plan_model.proofs.BelowFacts.{count_by-cons, count_by_keys, count_by_none, sum_below-le, sum_below-same}
+use Rattle.plan_model.proofs.CountFacts.{bit, is_before}
+use Rattle.plan_model.proofs.LowerBoundLaws.{saved_below}
+use Rattle.plan_model.proofs.SavedLaws.{Rising, need_is}
 
 -- a value that is alive before wave s or born in it dies there, or is alive before the next
 pub alive_next : (lives : List Life) (s : ℕ) → All (λ x. x.born < x.dies) lives

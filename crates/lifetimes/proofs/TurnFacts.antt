@@ -7,7 +7,7 @@ use Rattle.std.proofs.lemmas.Bool.{eqb-true}
 use Rattle.std.proofs.lemmas.Bool.Decides.{nat_tests}
 use Rattle.plan_model.specs.Buffers.{is_born_of, is_freed}
 use Rattle.plan_model.specs.declared.buffers.Life.{Life}
-use Rattle.plan_model.proofs.Counts.{bit}
+use Rattle.plan_model.proofs.CountFacts.{bit}
 use Rattle.lifetimes.proofs.TallyFacts.{count_by-push, count_by-more}
 use Rattle.lifetimes.specs.Turns.{same_turn, count_in}
 use Rattle.lifetimes.specs.declared.taken.Turn.{Turn}

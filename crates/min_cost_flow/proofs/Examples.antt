@@ -4,13 +4,13 @@ use Rattle.std.specs.List.{All}
 use Rattle.std.proofs.lemmas.Int.{ints}
 use Rattle.std.proofs.lemmas.Option.{slice_get_within, get_or_from_slice_get}
 use Rattle.shortest_paths.specs.Walks.{Reaches, IsWithin, number_of}
-use Rattle.shortest_paths.proofs.WalkLemmas.{some_same, edge_at}
+use Rattle.shortest_paths.proofs.WalkLaws.{some_same, edge_at}
 use Rattle.min_cost_flow.specs.declared.network.Arc.{Arc}
 use Rattle.min_cost_flow.specs.declared.network.Network.{Network}
 use Rattle.min_cost_flow.specs.Laws.{weight_of, bound_of, IsOfLeastCost, IsOfLeastBound}
 use Rattle.min_cost_flow.specs.Flow.{IsNetwork, IsTight, MeetsNeeds, length_of}
-use Rattle.min_cost_flow.proofs.DualityLemmas.{tight_is_optimal_law}
-use Rattle.min_cost_flow.proofs.NetworkLemmas.{no_positive_cycle_from_potentials, connected_by_root}
+use Rattle.min_cost_flow.proofs.DualityLaws.{tight_is_optimal_law}
+use Rattle.min_cost_flow.proofs.NetworkLaws.{no_positive_cycle_from_potentials, connected_by_root}
 
 abbrev pub arc : ℕ → ℕ → ℤ → Arc
 arc tail head least = record { tail = tail; head = head; least = least }

@@ -10,7 +10,7 @@ use Rattle.graph_model.specs.declared.graph.Graph.{Graph}
 use Rattle.graph_model.proofs.LiveLaws.{live_by}
 use Rattle.graph_model.proofs.ReachLaws.{filter_from}
 use Rattle.plan_model.specs.Rules.{AreLiveNodes}
-use Rattle.plan_model.proofs.Distinct.{Differ, differ_permuted}
+use Rattle.plan_model.proofs.DistinctFacts.{Differ, differ_permuted}
 use Rattle.plan_model.proofs.WaveLaws.{live_differ, kept}
 
 -- a list that never falls and has no item twice rises

@@ -22,9 +22,9 @@ use Rattle.plan_model.specs.declared.schedule.Wave.{Wave}
 use Rattle.orders.specs.Orders as core
 use Rattle.graph_model.proofs.PathLaws.{same_name}
 use Rattle.engine_model.specs.Machines.{Kept, passed_then, summed, taken, takes_in, made, machine, sources, homes_at, channels_into, delays_into}
-use Rattle.engine_model.proofs.Plans.{is_in_of, of_is_in}
-use Rattle.engine_model.proofs.Runs.{value_of, read_alone, one_home, node_in}
-use Rattle.orders.proofs.Counts.{writer}
+use Rattle.engine_model.proofs.PlanLaws.{is_in_of, of_is_in}
+use Rattle.engine_model.proofs.RunLaws.{value_of, read_alone, one_home, node_in}
+use Rattle.orders.proofs.CountLaws.{writer}
 use Rattle.std.specs.Prelude.{◌||◌}
 use Rattle.std.proofs.lemmas.Bool.{eqb-true}
 use Rattle.graph_model.proofs.PathLaws.{at_tail}

@@ -21,9 +21,9 @@ use Rattle.plan_model.specs.Schedules.{names}
 use Rattle.plan_model.specs.declared.plan.Plan.{Plan}
 use Rattle.plan_model.specs.declared.schedule.Wave.{Wave}
 use Rattle.plan_model.proofs.ExampleTools.{listed}
-use Rattle.plan_model.proofs.Saved.{Contains-map}
-use Rattle.engine_model.proofs.Plans.{is_in_of}
-use Rattle.engine_model.proofs.Runs.{on_in, some_node}
+use Rattle.plan_model.proofs.SavedLaws.{Contains-map}
+use Rattle.engine_model.proofs.PlanLaws.{is_in_of}
+use Rattle.engine_model.proofs.RunLaws.{on_in, some_node}
 use Rattle.pool_waves.specs.declared.job.Job.{Job}
 use Rattle.players.specs.declared.playing.Player.{Player}
 use Rattle.plan_jobs.specs.Blocks.{AreEnds, nodes_before, all_nodes}

@@ -21,7 +21,7 @@ use Rattle.plan_model.specs.Certified.{IsCertified, positions}
 use Rattle.plan_model.specs.declared.plan.Plan.{Plan}
 use Rattle.plan_model.proofs.CertifiedLaws.{alignment_of}
 use Rattle.graph_model.proofs.BoundFacts.{outs_are, length-ins}
-use Rattle.engine_model.proofs.Headroom.{delays_are_bounded}
+use Rattle.engine_model.proofs.HeadroomLaws.{delays_are_bounded}
 use Rattle.graph_model.specs.Kernels.{IsBoundOf}
 
 there : (ns : List Node) (v : ℕ) (m : Node) → find (λ k. k.uid.0 == v) ns ≡ Some m → Contains ns m × (m.uid.0 ≡ v)

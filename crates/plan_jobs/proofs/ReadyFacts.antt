@@ -30,14 +30,14 @@ use Rattle.plan_model.specs.Schedules.{names}
 use Rattle.plan_model.specs.declared.plan.Plan.{Plan}
 use Rattle.plan_model.specs.declared.schedule.Wave.{Wave}
 use Rattle.plan_model.specs.declared.buffers.Home.{Home as PlanHome}
-use Rattle.plan_model.proofs.Distinct.{Differ, differ_rising}
-use Rattle.plan_model.proofs.Saved.{Contains-map, Contains-from_map}
+use Rattle.plan_model.proofs.DistinctFacts.{Differ, differ_rising}
+use Rattle.plan_model.proofs.SavedLaws.{Contains-map, Contains-from_map}
 use Rattle.orders.specs.Orders as core
 use Rattle.graph_model.specs.Streams.{tap, out_at}
 use Rattle.engine_model.specs.Machines.{sum_on}
 use Rattle.engine_model.specs.Machines.{Kept, taps, machine, sources, homes_at, channels_into, delays_into}
 use Rattle.engine_model.specs.States.{kept_at}
-use Rattle.engine_model.proofs.Headroom.{sums_are_bounded}
+use Rattle.engine_model.proofs.HeadroomLaws.{sums_are_bounded}
 use Rattle.pool_waves.specs.declared.job.Home.{Home}
 use Rattle.pool_waves.specs.declared.job.Desk.{Desk}
 use Rattle.pool_waves.specs.declared.job.Job.{Job}
@@ -48,9 +48,9 @@ use Rattle.pool_waves.proofs.ExchangeFacts.{desk_at}
 use Rattle.graph_model.specs.Kernels.{IsFrameWithin}
 use Rattle.std.specs.List.{find}
 use Rattle.plan_model.specs.Lives.{source as source_of}
-use Rattle.engine_model.proofs.Plans.{below, values, home_for, buffer_read, schedule}
-use Rattle.engine_model.proofs.Runs.{IsBefore, reads_right, on_in, apart, one_home, node_in, read_by, into_live}
-use Rattle.engine_model.proofs.Runs.{wave_is as wave_at}
+use Rattle.engine_model.proofs.PlanLaws.{below, values, home_for, buffer_read, schedule}
+use Rattle.engine_model.proofs.RunLaws.{IsBefore, reads_right, on_in, apart, one_home, node_in, read_by, into_live}
+use Rattle.engine_model.proofs.RunLaws.{wave_is as wave_at}
 use Rattle.engine_model.proofs.MachineLaws.{local_is, out_of_lines}
 use Rattle.players.specs.declared.gathering.Wire.{Wire}
 use Rattle.players.specs.declared.playing.Player.{Player}

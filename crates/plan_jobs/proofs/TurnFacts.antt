@@ -17,13 +17,13 @@ use Rattle.plan_model.specs.Schedules.{names}
 use Rattle.plan_model.specs.declared.plan.Plan.{Plan}
 use Rattle.plan_model.specs.declared.schedule.Wave.{Wave}
 use Rattle.plan_model.specs.declared.buffers.Home.{Home as PlanHome}
-use Rattle.plan_model.proofs.Distinct.{Differ, differ_permuted}
+use Rattle.plan_model.proofs.DistinctFacts.{Differ, differ_permuted}
 use Rattle.plan_model.proofs.WaveLaws.{live_differ}
 use Rattle.orders.specs.Orders as core
-use Rattle.orders.proofs.Counts.{orders_run}
+use Rattle.orders.proofs.CountLaws.{orders_run}
 use Rattle.engine_model.specs.Machines.{Kept, machine}
-use Rattle.engine_model.proofs.Plans.{schedule, of_is_in}
-use Rattle.engine_model.proofs.Runs.{IsBefore, next, apart}
+use Rattle.engine_model.proofs.PlanLaws.{schedule, of_is_in}
+use Rattle.engine_model.proofs.RunLaws.{IsBefore, next, apart}
 use Rattle.engine_model.proofs.OrderLaws.{some_order, orders_never_show}
 use Rattle.pool_waves.specs.declared.job.Home.{Home}
 use Rattle.pool_waves.specs.declared.job.Job.{Job}

@@ -2,7 +2,7 @@
 use Rattle.std.proofs.Common.{◌≡◌, ℕ, ◌+◌, ◌<◌, Bool, true, false, List, [], ◌∷◌, ◌++◌, refl, ap, subst, arith, ◌==◌, ◌||◌}
 use Rattle.std.specs.List.{All, Contains, list_any}
 use Rattle.std.proofs.lemmas.List.Elements.{All-push, Contains-append_left, Contains-append_right}
-use Rattle.graph_model.proofs.Common.{by_lt}
+use Rattle.graph_model.proofs.CommonFacts.{by_lt}
 use Rattle.players.specs.declared.gathering.Wire.{Wire}
 use Rattle.players.specs.Reads.{channels_of, is_fed}
 

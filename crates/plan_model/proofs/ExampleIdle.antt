@@ -24,7 +24,7 @@ use Rattle.plan_model.proofs.ExampleOrders.{next_by_test}
 use Rattle.plan_model.proofs.ExamplePlan.{plan}
 use Rattle.plan_model.proofs.ExampleRules.{earlier, first_bad}
 use Rattle.plan_model.proofs.ExampleTools.{rising, names_of, listed, not_among}
-use Rattle.graph_model.proofs.OrderOnce.{order_once}
+use Rattle.graph_model.proofs.OrderOnceLaws.{order_once}
 
 -- two gains in a row that no connection leaves, before an insert and a gain into the output
 unfoldable pub with_idle : Graph

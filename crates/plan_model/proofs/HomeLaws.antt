@@ -14,7 +14,7 @@ use Rattle.plan_model.specs.Lives.{Port, source, AreValues, ports_of, lives_of, 
 use Rattle.plan_model.specs.declared.buffers.Home.{Home}
 use Rattle.plan_model.specs.declared.buffers.Life.{Life}
 use Rattle.plan_model.specs.declared.rule.Rule.TheVariants.{Homes, Channels}
-use Rattle.plan_model.proofs.LowerBound.{pair_of, turn_share}
+use Rattle.plan_model.proofs.LowerBoundLaws.{pair_of, turn_share}
 
 abbrev port : Home → Port
 port h = record { uid = h.uid; channel = h.channel }

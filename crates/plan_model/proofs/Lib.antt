@@ -1,4 +1,4 @@
-pub mod Counts
+pub mod CountFacts
 pub mod Examples
 pub mod ExampleTools
 pub mod ExampleAlignments
@@ -9,10 +9,10 @@ pub mod ExampleBuffers
 pub mod SumLaws
 pub mod NetworkLaws
 pub mod DualityLaws
-pub mod Below
-pub mod Bound
-pub mod LowerBound
-pub mod Saved
+pub mod BelowFacts
+pub mod BoundFacts
+pub mod LowerBoundLaws
+pub mod SavedLaws
 pub mod CertifiedLaws
 pub mod ShiftLaws
 pub mod RefusalLaws
@@ -25,7 +25,7 @@ pub mod ExampleNumbers
 pub mod PlaceLaws
 pub mod LifeLaws
 pub mod UniqueLaws
-pub mod Distinct
+pub mod DistinctFacts
 pub mod WaveLaws
 pub mod LatencyLaws
 pub mod LastLaws

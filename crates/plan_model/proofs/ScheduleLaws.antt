@@ -22,11 +22,11 @@ use Rattle.plan_model.specs.Schedules.{IsSchedule, IsOneByOne, IsByWaves, OneByO
 use Rattle.plan_model.specs.declared.schedule.Mode.{Mode}
 use Rattle.plan_model.specs.declared.schedule.Mode.TheVariants.{OneByOne, Waves}
 use Rattle.plan_model.specs.declared.schedule.Wave.{Wave}
-use Rattle.graph_model.proofs.Common.{some_same}
+use Rattle.graph_model.proofs.CommonFacts.{some_same}
 use Rattle.graph_model.proofs.LiveLaws.{ends_live, live_by, live_test}
 use Rattle.plan_model.proofs.CertifiedLaws.{stands_in}
 use Rattle.plan_model.proofs.ExampleTools.{rising}
-use Rattle.graph_model.proofs.OrderOnce.{order_once}
+use Rattle.graph_model.proofs.OrderOnceLaws.{order_once}
 use Rattle.plan_model.proofs.UniqueLaws.{same_entries}
 use Rattle.plan_model.proofs.WaveLaws.{first_with, in_any, in_earlier, not_before, waves_by_entries}
 

@@ -27,7 +27,7 @@ use Rattle.plan_model.specs.SharedFlows.{at_node, mirror, same_channel, same_poi
 use Rattle.plan_model.specs.SharedDuality.{IsSharedTight, SharedWeakDuality, SharedOptimumIsTight, SharedTightIsOptimum}
 use Rattle.plan_model.specs.declared.shared.Point.{Point}
 use Rattle.plan_model.specs.declared.shared.PointUnits.{PointUnits}
-use Rattle.plan_model.proofs.Below.{count_by-le_one, count_by_at}
+use Rattle.plan_model.proofs.BelowFacts.{count_by-le_one, count_by_at}
 use Rattle.plan_model.proofs.SumLaws.{sum_none, sum_same}
 use Rattle.plan_model.proofs.NetworkLaws.{all_append, all_map, meets_all, weakly_dual, tight_of_optimum, optimum_of_tight}
 use Rattle.graph_model.proofs.LiveLaws.{output_is_live}

@@ -19,7 +19,7 @@ use Rattle.plan_model.specs.declared.shared.Point.{Point}
 use Rattle.plan_model.specs.declared.shared.PointUnits.{PointUnits}
 use Rattle.plan_model.proofs.PlaceLaws.{has_item, ascending_by_entries, entries_ascending}
 use Rattle.plan_model.proofs.RefusalLaws.{first_is_one, one_first_bad, place_is_one, IsOne}
-use Rattle.plan_model.proofs.Saved.{Contains-map, Contains-from_map}
+use Rattle.plan_model.proofs.SavedLaws.{Contains-map, Contains-from_map}
 use Rattle.plan_model.proofs.UniqueLaws.{live_nodes_are_unique}
 
 pub point_arcs_by_entries : PointArcsByEntries

@@ -20,7 +20,7 @@ use Rattle.plan_model.specs.Sizes.{DelaysAreSmall, ChannelsAreFew}
 use Rattle.plan_model.specs.declared.alignment.LineAt.{LineAt}
 use Rattle.plan_model.specs.declared.buffers.Life.{Life}
 use Rattle.plan_model.specs.declared.rule.Rule.TheVariants.{Latency, Lines, Waves, Homes, Peak}
-use Rattle.plan_model.proofs.Below.{count_by-cons}
+use Rattle.plan_model.proofs.BelowFacts.{count_by-cons}
 use Rattle.plan_model.proofs.CertifiedLaws.{alignment_of, are_lives}
 use Rattle.plan_model.proofs.LastLaws.{output_is_last}
 use Rattle.plan_model.proofs.LatencyLaws.{few_frames_late}

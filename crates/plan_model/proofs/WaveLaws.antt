@@ -22,7 +22,7 @@ use Rattle.plan_model.specs.Schedules.{IsSchedule, names, wave_of}
 use Rattle.plan_model.specs.Places.{IsNextWave, IsWaveAt, WavesByEntries}
 use Rattle.plan_model.specs.declared.schedule.Wave.{Wave}
 use Rattle.plan_model.proofs.CertifiedLaws.{in_wave, stands_in}
-use Rattle.plan_model.proofs.Distinct.{Differ, differ_append, differ_parts, differ_permuted, differ_rising, differ_filtered, permutes}
+use Rattle.plan_model.proofs.DistinctFacts.{Differ, differ_append, differ_parts, differ_permuted, differ_rising, differ_filtered, permutes}
 use Rattle.plan_model.proofs.ExampleTools.{names_of, listed}
 use Rattle.plan_model.proofs.PlaceLaws.{has_item}
 

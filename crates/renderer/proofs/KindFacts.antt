@@ -21,7 +21,7 @@ use Rattle.graph_model.specs.Named.{uid_at}
 use Rattle.graph_model.proofs.NameFacts.{any_node}
 use Rattle.renderer.specs.Evaluations.{IsEvaluation, input_of, positions_of, incoming_at, outgoing_at}
 use Rattle.renderer.specs.declared.evaluation.Evaluation.{Evaluation}
-use Rattle.graph_model.proofs.Interleaving.{AreWide, wide-history_of, length-interleaved}
+use Rattle.graph_model.proofs.InterleavingLaws.{AreWide, wide-history_of, length-interleaved}
 use Rattle.graph_model.proofs.NodeFacts.{ins_is, range_at}
 use Rattle.graph_model.proofs.StreamFacts.{given_input, given_processor, interleaved-output}
 use Rattle.renderer.proofs.OutgoingFacts.{input_interleaved, incoming_within, bound_is, outgoing_given}

@@ -1,9 +1,9 @@
 pub mod PositionFacts
-pub mod Adding
+pub mod AddingFacts
 pub mod RouteFacts
 pub mod OutgoingFacts
 pub mod SumFacts
 pub mod KindFacts
-pub mod OrderSteps
+pub mod OrderStepFacts
 pub mod AnswerFacts
 pub mod Examples

@@ -7,11 +7,11 @@ use Rattle.graph_model.specs.Bounds.{bounds, IsWithin}
 use Rattle.graph_model.specs.Kernels.{IsBoundOf}
 use Rattle.graph_model.specs.Named.{uid_at}
 use Rattle.graph_model.proofs.BlockLaws.{length-frames_of, frames_are_interleaved}
-use Rattle.graph_model.proofs.Interleaving.{AreWide, wide-frames_of}
+use Rattle.graph_model.proofs.InterleavingLaws.{AreWide, wide-frames_of}
 use Rattle.graph_model.proofs.NameFacts.{any_node}
 use Rattle.graph_model.proofs.NodeFacts.{input_some}
-use Rattle.graph_model.proofs.StreamSizes.{frames_small}
-use Rattle.graph_model.proofs.StreamSizes as sizes
+use Rattle.graph_model.proofs.StreamSizeLaws.{frames_small}
+use Rattle.graph_model.proofs.StreamSizeLaws as sizes
 use Rattle.renderer.specs.Evaluations.{IsEvaluation, input_of, positions_of}
 use Rattle.renderer.specs.declared.evaluation.Evaluation.{Evaluation}
 

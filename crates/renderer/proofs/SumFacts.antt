@@ -25,11 +25,11 @@ use Rattle.renderer.specs.Evaluations.{IsEvaluation, HasStream, HasSources, inpu
 use Rattle.renderer.specs.declared.routes.Channel.{Channel}
 use Rattle.renderer.specs.declared.routes.Route.{Route}
 use Rattle.renderer.specs.declared.evaluation.Evaluation.{Evaluation}
-use Rattle.renderer.proofs.Adding.{before_none, before_some}
-use Rattle.graph_model.proofs.Interleaving.{in_row, in_turn, in_frame, length-interleaved, get_or-interleaved, interleaved-history_of}
+use Rattle.renderer.proofs.AddingFacts.{before_none, before_some}
+use Rattle.graph_model.proofs.InterleavingLaws.{in_row, in_turn, in_frame, length-interleaved, get_or-interleaved, interleaved-history_of}
 use Rattle.graph_model.proofs.NodeFacts.{named, channels_fit}
 use Rattle.renderer.proofs.RouteFacts.{kept}
-use Rattle.graph_model.proofs.StreamSizes.{interleaved_small}
+use Rattle.graph_model.proofs.StreamSizeLaws.{interleaved_small}
 use Rattle.renderer.proofs.OutgoingFacts.{long_input, outgoing_small, wide_outgoing, long_outgoing}
 
 -- ---- sums

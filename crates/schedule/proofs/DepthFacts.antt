@@ -11,13 +11,13 @@ use Rattle.graph_model.specs.Sound.{IsSound}
 use Rattle.graph_model.specs.declared.graph.Connection.{Connection}
 use Rattle.graph_model.specs.declared.graph.Node.{Node}
 use Rattle.graph_model.specs.declared.graph.Graph.{Graph}
-use Rattle.graph_model.proofs.Common.{not_same}
+use Rattle.graph_model.proofs.CommonFacts.{not_same}
 use Rattle.graph_model.proofs.NameFacts.{any_node, is_node, name_is, same_index}
 use Rattle.graph_model.proofs.NodeFacts.{named}
 use Rattle.graph_model.proofs.PathLaws.{same_name}
 use Rattle.graph_model.proofs.RankLaws.{depth_is_deepest, node_of, sound_is_ranked}
 use Rattle.graph_model.proofs.ReachLaws.{filter_from, filter_has, greatest_over, greatest_under}
-use Rattle.plan_model.proofs.Saved.{Contains-map, Contains-from_map}
+use Rattle.plan_model.proofs.SavedLaws.{Contains-map, Contains-from_map}
 use Rattle.topology.specs.Answers.{IsOrderOfNodes}
 use Rattle.topology.proofs.LinkFacts.{any_connection}
 use Rattle.topology.proofs.OrderFacts.{stands_index}

@@ -2,7 +2,7 @@
 use Rattle.std.proofs.Common.{◌≡◌, ℕ, ◌+◌, ◌<◌, ◌==◌, List, [], ◌∷◌, ◌++◌, length, map, take, set, get_or, refl, sym, ap, ◌∙◌, arith, true, false, cond, filter, inl, inr}
 use Rattle.std.proofs.lemmas.Bool.{cases_eq}
 use Rattle.std.proofs.lemmas.List.{append-nil, get_or_default, get_or-set_same, get_or-set_other, length-set, take_more}
-use Rattle.graph_model.proofs.Common.{not_same}
+use Rattle.graph_model.proofs.CommonFacts.{not_same}
 use Rattle.graph_model.proofs.PathLaws.{same_name}
 use Rattle.schedule.specs.Groups.{AreGroups, items_of}
 use Rattle.schedule.specs.declared.groups.Entry.{Entry}

@@ -15,7 +15,7 @@ use Rattle.graph_model.specs.Sound.{IsSound}
 use Rattle.graph_model.specs.declared.graph.Uid.{Uid}
 use Rattle.graph_model.specs.declared.graph.Connection.{Connection}
 use Rattle.graph_model.specs.declared.graph.Graph.{Graph}
-use Rattle.graph_model.proofs.Common.{some_same}
+use Rattle.graph_model.proofs.CommonFacts.{some_same}
 use Rattle.graph_model.proofs.NodeFacts.{output_is_node}
 use Rattle.graph_model.proofs.LiveLaws.{ends_live, live_by, output_is_live}
 use Rattle.graph_model.proofs.PathLaws.{first_or_later, live_source, same_name}
@@ -25,8 +25,8 @@ use Rattle.plan_model.specs.Places.{IsWaveAt}
 use Rattle.plan_model.specs.Schedules.{IsSchedule, IsByWaves, names, wave_of}
 use Rattle.plan_model.specs.declared.schedule.Wave.{Wave}
 use Rattle.plan_model.proofs.CertifiedLaws.{stands_in}
-use Rattle.plan_model.proofs.Distinct.{Differ, differ_permuted}
-use Rattle.plan_model.proofs.Saved.{Contains-map}
+use Rattle.plan_model.proofs.DistinctFacts.{Differ, differ_permuted}
+use Rattle.plan_model.proofs.SavedLaws.{Contains-map}
 use Rattle.plan_model.proofs.WaveLaws.{each_entry, first_with, in_any, in_earlier, kept, live_differ, waves_by_entries}
 use Rattle.schedule.specs.Groups.{AreGroups, items_of}
 use Rattle.schedule.specs.Levels.{AreByDepth}

@@ -5,7 +5,7 @@ use Rattle.std.proofs.lemmas.Int.{ints}
 use Rattle.std.proofs.lemmas.List.Elements.{All-contains}
 use Rattle.shortest_paths.specs.declared.edges.Edge.{Edge}
 use Rattle.shortest_paths.specs.Walks.{IsWalk, Reaches, HasNoNegativeCycle, IsLeastCost, EndsLeast, ClimbsIn, number_of}
-use Rattle.shortest_paths.proofs.WalkLemmas.{walk_from_potentials, no_cycle_from_potentials, some_same}
+use Rattle.shortest_paths.proofs.WalkLaws.{walk_from_potentials, no_cycle_from_potentials, some_same}
 
 abbrev pub edge : ℕ → ℕ → ℤ → Edge
 edge tail head cost = record { tail = tail; head = head; cost = cost }

@@ -7,7 +7,7 @@ use Rattle.byteorder.specs.Endian.{low_bytes, twos_complement}
 use Rattle.byteorder.specs.Numbers.{little_number-reads_back}
 use Rattle.graph_model.specs.Rounding.{rounded, clamped}
 use Rattle.wav_pcm.specs.Samples.{IsSize, least, greatest, sample_bytes, sample_of, scaled, written}
-use Rattle.wav_pcm.proofs.Sizes.{by_size}
+use Rattle.wav_pcm.proofs.SizeFacts.{by_size}
 
 signs_16 : (s : ℤ) → least 16 ≤ℤ s → s ≤ℤ greatest 16 → twos_complement 2 (low_bytes w64 2 s) ≡ s
 signs_16 (pos n) low high = let e : low_bytes w64 2 (pos n) ≡ n = omega (arith, ints) in ap (twos_complement 2) e ∙ (let h : n < 32768 = omega (arith, ints) in grind (arith, nat_tests))

@@ -7,7 +7,7 @@ use Rattle.std.proofs.lemmas.List.Elements.{All-head, All-tail}
 use Rattle.graph_model.specs.StreamLaws.{map-range_same}
 use Rattle.wav_pcm.specs.Samples.{IsSize, sample_of, scaled, written, samples_in, bytes_of}
 use Rattle.wav_pcm.specs.Laws.{IsScaledFrom}
-use Rattle.wav_pcm.proofs.Sizes.{by_size, length-written}
+use Rattle.wav_pcm.proofs.SizeFacts.{by_size, length-written}
 use Rattle.wav_pcm.proofs.BackLaws.{written_reads_back}
 
 -- the sample at a place of a body

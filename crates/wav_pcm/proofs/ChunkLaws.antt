@@ -9,7 +9,7 @@ use Rattle.std.proofs.lemmas.Slice.Eq.{bytes_eq-Decides}
 use Rattle.byteorder.specs.Endian.{little_number}
 use Rattle.wav_pcm.specs.Chunks.{chunk_at, is_format, is_data, after, AreChunks}
 use Rattle.wav_pcm.specs.declared.chunk.Chunk.{Chunk}
-use Rattle.wav_pcm.proofs.Told.{part_in, number_in}
+use Rattle.wav_pcm.proofs.ToldLaws.{part_in, number_in}
 
 -- a chunk in the 8 bytes in front of its body
 pub chunk_in : (at end : ℕ) (bytes head mark : List ℕ) (size from : ℕ) → end ≡ at + 8 → head ≡ slice_range bytes at end

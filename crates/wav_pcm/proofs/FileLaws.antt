@@ -15,7 +15,7 @@ use Rattle.wav_pcm.specs.Laws.{WrittenIsReadBack, written_head}
 use Rattle.wav_pcm.specs.declared.chunk.Chunk.{Chunk}
 use Rattle.wav_pcm.specs.declared.format.Format.{Format}
 use Rattle.wav_pcm.specs.declared.head.WavFault.TheVariants as fault
-use Rattle.wav_pcm.proofs.Sizes.{by_size}
+use Rattle.wav_pcm.proofs.SizeFacts.{by_size}
 use Rattle.wav_pcm.proofs.SampleLaws.{length-bytes_of}
 use Rattle.wav_pcm.proofs.HeadLaws.{reads_wave, by_format}
 use Rattle.wav_pcm.proofs.BodyLaws.{wide, samples_in-bytes_of}

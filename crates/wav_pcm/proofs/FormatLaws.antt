@@ -6,7 +6,7 @@ use Rattle.wav_pcm.specs.Chunks.{u16_at, u32_at}
 use Rattle.wav_pcm.specs.Formats.{extension_at, extension_in, format_in}
 use Rattle.wav_pcm.specs.declared.chunk.Chunk.{Chunk}
 use Rattle.wav_pcm.specs.declared.format.Extension.{Extension}
-use Rattle.wav_pcm.proofs.Told.{part_in, number_in}
+use Rattle.wav_pcm.proofs.ToldLaws.{part_in, number_in}
 
 -- an extension in its 24 bytes
 extension_from : (from end : ℕ) (bytes piece subformat : List ℕ) (valid : ℕ) → end ≡ from + 24 → piece ≡ slice_range bytes from end → length piece ≡ 24

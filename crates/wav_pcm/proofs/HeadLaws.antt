@@ -15,7 +15,7 @@ use Rattle.wav_pcm.specs.declared.format.Format.{Format}
 use Rattle.wav_pcm.specs.declared.head.Head.{Head}
 use Rattle.wav_pcm.specs.declared.head.WavFault.{WavFault}
 use Rattle.wav_pcm.specs.declared.head.WavFault.TheVariants as fault
-use Rattle.wav_pcm.proofs.Told.{part_in}
+use Rattle.wav_pcm.proofs.ToldLaws.{part_in}
 use Rattle.wav_pcm.proofs.ChunkLaws.{Found, chunks_exist, chunks_unique}
 
 -- the first 12 bytes say whether a file is RIFF/WAVE

@@ -1,9 +1,9 @@
-pub mod Sizes
+pub mod SizeFacts
 pub mod SampleLaws
 pub mod BackLaws
 pub mod BodyLaws
 pub mod PartLaws
-pub mod Told
+pub mod ToldLaws
 pub mod ChunkLaws
 pub mod FormatLaws
 pub mod HeadLaws

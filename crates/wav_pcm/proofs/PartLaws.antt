@@ -10,7 +10,7 @@ use Rattle.byteorder.specs.Endian.{twos_complement}
 use Rattle.wav_pcm.specs.Samples.{IsSize, sample_of, scaled, samples_in}
 use Rattle.wav_pcm.specs.Files.{frame_size, data_size, IsHead, recorded}
 use Rattle.wav_pcm.specs.declared.head.Head.{Head}
-use Rattle.wav_pcm.proofs.Sizes.{by_size}
+use Rattle.wav_pcm.proofs.SizeFacts.{by_size}
 use Rattle.wav_pcm.proofs.BodyLaws.{wide, samples_in-cons, samples_in-none}
 
 abbrev ReadsFront : List ℕ → List ℕ → ℕ → Type 0

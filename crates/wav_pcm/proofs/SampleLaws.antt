@@ -8,7 +8,7 @@ use Rattle.std.proofs.lemmas.List.Elements.{All-append}
 use Rattle.std.proofs.lemmas.List.FromFn.{map-range_with_len_more}
 use borrow.Rule.Slice.PartMut.{put_mid, post_of}
 use Rattle.wav_pcm.specs.Samples.{IsSize, IsScaled, written, bytes_of}
-use Rattle.wav_pcm.proofs.Sizes.{length-written}
+use Rattle.wav_pcm.proofs.SizeFacts.{length-written}
 
 -- each sample has bits / 8 bytes
 pub length-bytes_of : (bits : ℕ) (samples : List ℤ) → IsSize bits → length (bytes_of bits samples) ≡ length samples * (bits / 8)

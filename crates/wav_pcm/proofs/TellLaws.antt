@@ -12,7 +12,7 @@ use Rattle.wav_pcm.specs.declared.head.HeadFault.{HeadFault}
 use Rattle.wav_pcm.specs.declared.head.HeadFault.TheVariants as head_fault
 use Rattle.wav_pcm.specs.declared.head.WavFault.{WavFault}
 use Rattle.wav_pcm.specs.declared.head.WavFault.TheVariants as fault
-use Rattle.wav_pcm.proofs.Told.{told_more, told_both}
+use Rattle.wav_pcm.proofs.ToldLaws.{told_more, told_both}
 use Rattle.wav_pcm.proofs.ChunkLaws.{Found}
 use Rattle.wav_pcm.proofs.HeadLaws.{reads_wave, reads_other, no_format, other_format, by_format}
 

@@ -13,7 +13,7 @@ use Rattle.alignment.specs.Networks.{ArePoints, IsNetworkOf}
 use Rattle.alignment.specs.Places.{ArePositions, delay_of, line_of, places_of}
 use Rattle.alignment.specs.declared.links.Link.{Link}
 use Rattle.alignment.proofs.NetworkFacts.{network_is_one}
-use Rattle.alignment.proofs.Solutions.{solution}
+use Rattle.alignment.proofs.SolutionFacts.{solution}
 use Rattle.alignment.proofs.AlignFacts.{positions, timely, few_links, leasts, bound_is, is_aligned_as}
 use Rattle.plan_model.proofs.BestLaws.{no_earlier}
 use Rattle.alignment.proofs.align.Goals as goal

@@ -3,7 +3,7 @@ use Rattle.std.specs.List.{All}
 use Rattle.std.proofs.lemmas.List.{length-append}
 use Rattle.plan_model.specs.Buffers.{is_born, is_dying, need_of_wave, AreLives}
 use Rattle.plan_model.specs.declared.buffers.Life.{Life}
-use Rattle.plan_model.proofs.Counts.{is_before}
+use Rattle.plan_model.proofs.CountFacts.{is_before}
 use Rattle.lifetimes.proofs.NeedFacts.{alive_few, alive_found, counted, dead_fits, need_found, needs_more, none_before, saved_fits, takers_within}
 use Rattle.lifetimes.proofs.needs.Goals as goal
 

@@ -1,6 +1,6 @@
 use Rattle.std.proofs.Common.{◌≡◌, ◌<◌, ℕ, count_by, length, slice_index}
 use Rattle.plan_model.specs.Buffers.{need_of_wave}
-use Rattle.plan_model.proofs.Counts.{is_before}
+use Rattle.plan_model.proofs.CountFacts.{is_before}
 use Rattle.lifetimes.proofs.needs.Given as goal
 
 abbrev pub invariant-loop-wave : goal.invariant-loop-wave

@@ -10,7 +10,7 @@ use Rattle.graph_model.specs.Named.{uid_at}
 use Rattle.renderer.specs.Positions.{position_at}
 use Rattle.renderer.specs.Evaluations.{HasSources}
 use Rattle.graph_model.proofs.LiveLaws.{output_is_live}
-use Rattle.renderer.proofs.OrderSteps.{all_sources}
+use Rattle.renderer.proofs.OrderStepFacts.{all_sources}
 use Rattle.renderer.proofs.rendered.Goals as goal
 
 pub incoming-requires-clause-live : goal.incoming-requires-clause-live

@@ -6,8 +6,8 @@ use Rattle.std.proofs.lemmas.List.Filters.{dedup_is}
 use Rattle.min_cost_flow.specs.declared.network.Arc.{Arc}
 use Rattle.min_cost_flow.specs.contracts.network.ArcOrd.TheImpl.Laws.{total-law, matches_eq-law}
 use Rattle.alignment.specs.Links.{arc_along, arc_from_root, arcs_to_root, links_of}
-use Rattle.alignment.proofs.PlaceLists.{zero_first}
-use Rattle.alignment.proofs.NetworkArcs.{arcs_are}
+use Rattle.alignment.proofs.PlaceListFacts.{zero_first}
+use Rattle.alignment.proofs.NetworkArcFacts.{arcs_are}
 use Rattle.alignment.proofs.SortedArcLaws.{order}
 use Rattle.alignment.proofs.network.arcs.Goals as goal
 

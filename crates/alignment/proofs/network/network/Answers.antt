@@ -3,7 +3,7 @@ use Rattle.std.specs.List.{range_with_len}
 use Rattle.alignment.specs.Networks.{AreNetworkArcs}
 use Rattle.alignment.specs.Links.{need_at}
 use Rattle.alignment.proofs.NetworkFacts.{needs_are}
-use Rattle.alignment.proofs.PlaceLists.{links_few}
+use Rattle.alignment.proofs.PlaceListFacts.{links_few}
 use Rattle.alignment.proofs.network.network.Goals as goal
 
 pub needs-requires : goal.needs-requires

@@ -19,7 +19,7 @@ use Rattle.alignment.specs.Values.{port}
 use Rattle.alignment.specs.declared.links.Link.{Link}
 use Rattle.alignment.proofs.SharedAlignFacts.{positions, node_positions, timely, few_links, links_named, leasts, bound_of, is_aligned_shared_as}
 use Rattle.alignment.proofs.SharedNetworkFacts.{shared_network_is_one}
-use Rattle.alignment.proofs.Solutions.{solution}
+use Rattle.alignment.proofs.SolutionFacts.{solution}
 use Rattle.alignment.proofs.shared.align_shared.Goals as goal
 
 pub solve-requires : goal.solve-requires

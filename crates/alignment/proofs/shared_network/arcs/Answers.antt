@@ -9,7 +9,7 @@ use Rattle.min_cost_flow.specs.contracts.network.ArcOrd.TheImpl.Laws.{total-law,
 use Rattle.plan_model.specs.Lives.{values}
 use Rattle.alignment.specs.Links.{arc_along, arc_from_root, arcs_to_root, links_of}
 use Rattle.alignment.specs.Mirrors.{arc_to_mirror, arc_from_mirror}
-use Rattle.alignment.proofs.PlaceLists.{zero_first}
+use Rattle.alignment.proofs.PlaceListFacts.{zero_first}
 use Rattle.alignment.proofs.SharedArcFacts.{shared_arcs_are, made}
 use Rattle.alignment.proofs.SortedArcLaws.{order}
 use Rattle.alignment.proofs.ValueListFacts.{few_values, as_many}

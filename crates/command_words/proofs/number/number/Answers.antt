@@ -1,5 +1,5 @@
 use Rattle.std.proofs.Common.{◌∙◌, sym}
-use Rattle.command_words.proofs.Numerals.{parsed}
+use Rattle.command_words.proofs.NumeralFacts.{parsed}
 use Rattle.command_words.proofs.number.number.Goals as goal
 
 pub returns-in-true : goal.returns-in-true

@@ -1,4 +1,4 @@
-use Rattle.engine_model.proofs.Headroom.{delays_are_bounded}
+use Rattle.engine_model.proofs.HeadroomLaws.{delays_are_bounded}
 use Rattle.engine_model.proofs.laws.delays_are_bounded.Goals as goal
 
 pub returns : goal.returns

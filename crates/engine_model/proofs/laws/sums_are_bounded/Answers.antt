@@ -1,4 +1,4 @@
-use Rattle.engine_model.proofs.Headroom.{sums_are_bounded}
+use Rattle.engine_model.proofs.HeadroomLaws.{sums_are_bounded}
 use Rattle.engine_model.proofs.laws.sums_are_bounded.Goals as goal
 
 pub returns : goal.returns

@@ -1,6 +1,6 @@
 use Rattle.std.proofs.Common.{◌≡◌, sym, ◌∙◌, ap, Some, get_or, None, List, ℕ}
 use Rattle.gh_outside.specs.Memory.{held_by, holding}
-use Rattle.gh_outside.proofs.Places.{held_there, room_there, fits_there, longer_after, not_stored, stored_after, others_after, rooms_after}
+use Rattle.gh_outside.proofs.PlaceFacts.{held_there, room_there, fits_there, longer_after, not_stored, stored_after, others_after, rooms_after}
 use Rattle.gh_outside.proofs.stored.add_under.Goals as goal
 
 none_some : {x : List ℕ} → None ≡ Some x → ⊥

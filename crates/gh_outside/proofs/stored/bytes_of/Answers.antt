@@ -1,6 +1,6 @@
 use Rattle.std.proofs.Common.{sym, ◌∙◌, ap}
 use Rattle.gh_outside.specs.Memory.{held_by}
-use Rattle.gh_outside.proofs.Places.{stored_there, not_stored}
+use Rattle.gh_outside.proofs.PlaceFacts.{stored_there, not_stored}
 use Rattle.gh_outside.proofs.stored.bytes_of.Goals as goal
 
 pub returns-in-Some : goal.returns-in-Some

@@ -3,7 +3,7 @@ use Rattle.std.specs.Option.{is_some}
 use Rattle.std.proofs.Common.{false}
 use Rattle.std.proofs.lemmas.Bool.{false≢true}
 use Rattle.gh_outside.specs.Memory.{held_by, room_by, room_of}
-use Rattle.gh_outside.proofs.Places.{room_there, not_stored, stored_after, others_after, rooms_after}
+use Rattle.gh_outside.proofs.PlaceFacts.{room_there, not_stored, stored_after, others_after, rooms_after}
 use Rattle.gh_outside.proofs.stored.clear_under.Goals as goal
 
 pub returns-in-Some-clause-room : goal.returns-in-Some-clause-room

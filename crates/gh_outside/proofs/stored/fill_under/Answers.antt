@@ -2,7 +2,7 @@ use Rattle.std.proofs.Common.{sym, ◌∙◌, ap, subst, length, ◌≤◌}
 use Rattle.std.specs.Option.{IfSome, is_some}
 use Rattle.std.proofs.lemmas.Bool.{false≢true}
 use Rattle.gh_outside.specs.Memory.{held_by, room_by}
-use Rattle.gh_outside.proofs.Places.{room_there, not_stored, stored_after, others_after, rooms_after}
+use Rattle.gh_outside.proofs.PlaceFacts.{room_there, not_stored, stored_after, others_after, rooms_after}
 use Rattle.gh_outside.proofs.stored.fill_under.Goals as goal
 
 pub fill-requires : goal.fill-requires

@@ -1,6 +1,6 @@
 use Rattle.std.proofs.Common.{sym, ◌∙◌, ap, Some}
 use Rattle.gh_outside.specs.Memory.{held_by}
-use Rattle.gh_outside.proofs.Places.{held_there, room_there, free_there, not_stored}
+use Rattle.gh_outside.proofs.PlaceFacts.{held_there, room_there, free_there, not_stored}
 use Rattle.gh_outside.proofs.stored.free_under.Goals as goal
 
 pub returns-in-Some : goal.returns-in-Some

@@ -2,7 +2,7 @@ use Rattle.std.proofs.Common.{◌≡◌, sym, ◌∙◌, ap, Some, None, subst, 
 use Rattle.std.specs.Prelude.{unwrap_or, OnOk}
 use Rattle.std.specs.List.{position}
 use Rattle.gh_outside.specs.Memory.{room_by, holding, room_of, is_named}
-use Rattle.gh_outside.proofs.Places.{widened, held_after, room_after, others_after, stored_more, stored_new, held_more, not_stored}
+use Rattle.gh_outside.proofs.PlaceFacts.{widened, held_after, room_after, others_after, stored_more, stored_new, held_more, not_stored}
 use Rattle.gh_outside.proofs.stored.widen_under.Goals as goal
 
 no_less : (n : ℕ) → n ≡ max 0 n

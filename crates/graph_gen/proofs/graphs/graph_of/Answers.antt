@@ -1,9 +1,9 @@
 -- The graph, node by node.
 use Rattle.std.proofs.Common.{◌≡◌, ◌+◌, ◌-◌, ap, arith, sym, subst, ◌∙◌}
 use Rattle.graph_model.specs.Sound.{IsSound}
-use Rattle.graph_gen.proofs.Soundness.{generated_is_sound}
+use Rattle.graph_gen.proofs.SoundnessLaws.{generated_is_sound}
 use Rattle.graph_gen.specs.Generated.{generated, with_endings}
-use Rattle.graph_gen.proofs.Steps.{one_more_node, more_connections, all_nodes, all_connections, whole_graph}
+use Rattle.graph_gen.proofs.StepFacts.{one_more_node, more_connections, all_nodes, all_connections, whole_graph}
 use Rattle.graph_gen.proofs.graphs.graph_of.Goals as goal
 
 pub loop-uid-preserved : goal.loop-uid-preserved

@@ -1,7 +1,7 @@
 -- One more sample.
 use Rattle.std.proofs.Common.{arith, rules, FitsSigned, w64}
 use Rattle.std.proofs.lemmas.Int.{to_z-of_z}
-use Rattle.graph_gen.proofs.Steps.{one_more_sample}
+use Rattle.graph_gen.proofs.StepFacts.{one_more_sample}
 use Rattle.graph_gen.proofs.samples.samples_of.Goals as goal
 
 pub loop-sample-preserved : goal.loop-sample-preserved

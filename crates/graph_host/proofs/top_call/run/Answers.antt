@@ -4,7 +4,7 @@ use Rattle.command_words.specs.Requests.{request_of}
 use Rattle.host_modes.specs.Asked.{IfRender}
 use Rattle.host_modes.specs.Readings.{IsBegun}
 use Rattle.host_modes.specs.Causes.{IsCaused}
-use Rattle.host_modes.proofs.EndOnce.{exactly}
+use Rattle.host_modes.proofs.EndOnceLaws.{exactly}
 use Rattle.graph_host.proofs.top_call.run.Goals as goal
 
 pub returns-clause-exact : goal.returns-clause-exact

@@ -1,4 +1,4 @@
-use Rattle.graph_model.proofs.StreamTimes.{histories_are_streams as law}
+use Rattle.graph_model.proofs.StreamTimeLaws.{histories_are_streams as law}
 use Rattle.graph_model.proofs.laws.histories_are_streams.Goals as goal
 
 pub returns : goal.returns

@@ -1,4 +1,4 @@
-use Rattle.graph_model.proofs.GraphTimes.{input_formula as law}
+use Rattle.graph_model.proofs.GraphTimeLaws.{input_formula as law}
 use Rattle.graph_model.proofs.laws.input_formula.Goals as goal
 
 pub returns : goal.returns

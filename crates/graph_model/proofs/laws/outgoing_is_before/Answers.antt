@@ -1,4 +1,4 @@
-use Rattle.graph_model.proofs.StreamTimes.{outgoing_is_before as law}
+use Rattle.graph_model.proofs.StreamTimeLaws.{outgoing_is_before as law}
 use Rattle.graph_model.proofs.laws.outgoing_is_before.Goals as goal
 
 pub returns : goal.returns

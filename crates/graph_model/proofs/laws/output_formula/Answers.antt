@@ -1,4 +1,4 @@
-use Rattle.graph_model.proofs.GraphTimes.{output_formula as law}
+use Rattle.graph_model.proofs.GraphTimeLaws.{output_formula as law}
 use Rattle.graph_model.proofs.laws.output_formula.Goals as goal
 
 pub returns : goal.returns

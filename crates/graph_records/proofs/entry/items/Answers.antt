@@ -1,6 +1,6 @@
 use Rattle.std.proofs.Common.{refl, map}
 use Rattle.serde_json.specs.View.{view}
-use Rattle.graph_records.proofs.Lists.{list_of-items_of}
+use Rattle.graph_records.proofs.ListFacts.{list_of-items_of}
 use Rattle.graph_records.proofs.entry.items.Goals as goal
 
 pub returns-in-Some : goal.returns-in-Some

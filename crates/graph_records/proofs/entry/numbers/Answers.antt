@@ -3,7 +3,7 @@ use Rattle.std.proofs.lemmas.Int.{ints}
 use Rattle.serde_json.specs.Data.{Data}
 use Rattle.serde_json.specs.View.{view}
 use Rattle.graph_records.specs.Numbers.{signed_in, whole_of}
-use Rattle.graph_records.proofs.Lists.{read_none, read_more, read_fails, read_all, gives_fault}
+use Rattle.graph_records.proofs.ListFacts.{read_none, read_more, read_fails, read_all, gives_fault}
 use Rattle.graph_records.proofs.entry.numbers.Goals as goal
 
 pub loop-value-init : goal.loop-value-init

@@ -1,6 +1,6 @@
 use Rattle.serde_json.specs.View.{view}
 use Rattle.graph_records.specs.Numbers.{signed_in, whole_of}
-use Rattle.graph_records.proofs.Lists.{IsReadTo}
+use Rattle.graph_records.proofs.ListFacts.{IsReadTo}
 use Rattle.graph_records.proofs.entry.numbers.Given as goal
 
 abbrev pub invariant-loop-value : goal.invariant-loop-value

@@ -1,4 +1,4 @@
-use Rattle.graph_records.proofs.ReadBack.{written_back}
+use Rattle.graph_records.proofs.ReadBackLaws.{written_back}
 use Rattle.graph_records.proofs.laws.written_is_read.Goals as goal
 
 pub returns : goal.returns

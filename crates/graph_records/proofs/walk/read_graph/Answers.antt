@@ -4,8 +4,8 @@ use Rattle.graph_model.specs.declared.graph.Graph.{Graph}
 use Rattle.graph_records.specs.declared.fault.RecordFault.{RecordFault}
 use Rattle.graph_model.specs.Refusals.{and_then, Gives}
 use Rattle.graph_records.specs.Walk.{graph_in}
-use Rattle.graph_records.proofs.Lists.{gives_fault, walk_none, walk_some}
-use Rattle.graph_records.proofs.FitLemmas.{gives_fitting}
+use Rattle.graph_records.proofs.ListFacts.{gives_fault, walk_none, walk_some}
+use Rattle.graph_records.proofs.FitFacts.{gives_fitting}
 use Rattle.graph_records.proofs.walk.read_graph.Goals as goal
 
 pub returns-in-Err-clause-exact : goal.returns-in-Err-clause-exact

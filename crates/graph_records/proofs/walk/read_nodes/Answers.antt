@@ -1,7 +1,7 @@
 use Rattle.std.proofs.Common.{◌≡◌, ◌∷◌, ◌++◌, [], rules}
 use Rattle.serde_json.specs.View.{view}
 use Rattle.graph_records.specs.Rows.{node_of}
-use Rattle.graph_records.proofs.Lists.{read_none, read_more, read_fails, read_all, gives_passed}
+use Rattle.graph_records.proofs.ListFacts.{read_none, read_more, read_fails, read_all, gives_passed}
 use Rattle.graph_records.proofs.walk.read_nodes.Goals as goal
 
 pub loop-index-init : goal.loop-index-init

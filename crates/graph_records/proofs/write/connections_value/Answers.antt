@@ -3,7 +3,7 @@ use Rattle.std.proofs.lemmas.List.{get_or_default}
 use Rattle.serde_json.proofs.Views.{view-Array}
 use Rattle.graph_records.specs.Typed.{IsTypedConnection}
 use Rattle.graph_records.specs.Written.{connection_data}
-use Rattle.graph_records.proofs.WrittenLists.{all_written, more_hold, more_written, no_connection}
+use Rattle.graph_records.proofs.WrittenListFacts.{all_written, more_hold, more_written, no_connection}
 use Rattle.graph_records.proofs.write.connections_value.Goals as goal
 
 pub loop-connection-preserved : goal.loop-connection-preserved

@@ -2,7 +2,7 @@ use Rattle.std.proofs.Common.{◌≡◌, ◌∙◌, ◌∷◌, ◌++◌, []}
 use Rattle.serde_json.proofs.Views.{view-Array}
 use Rattle.graph_records.specs.Typed.{IsTypedNode}
 use Rattle.graph_records.specs.Written.{node_data}
-use Rattle.graph_records.proofs.WrittenLists.{all_written, more_hold, more_written}
+use Rattle.graph_records.proofs.WrittenListFacts.{all_written, more_hold, more_written}
 use Rattle.graph_records.proofs.write.nodes_value.Goals as goal
 
 pub loop-node-preserved : goal.loop-node-preserved

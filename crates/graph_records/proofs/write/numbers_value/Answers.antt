@@ -4,7 +4,7 @@ use Rattle.std.proofs.lemmas.List.{get_or_default}
 use Rattle.serde_json.proofs.Views.{view-Array}
 use Rattle.graph_records.specs.Typed.{IsI32}
 use Rattle.graph_records.specs.Written.{signed_data}
-use Rattle.graph_records.proofs.WrittenLists.{all_written, is_i32, more_hold, more_written}
+use Rattle.graph_records.proofs.WrittenListFacts.{all_written, is_i32, more_hold, more_written}
 use Rattle.graph_records.proofs.write.numbers_value.Goals as goal
 
 pub loop-number-preserved : goal.loop-number-preserved

@@ -1,5 +1,5 @@
 use Rattle.serde_json.specs.View.{view}
-use Rattle.graph_records.proofs.ReadBack.{text_written, text_read_back}
+use Rattle.graph_records.proofs.ReadBackLaws.{text_written, text_read_back}
 use Rattle.graph_records.proofs.write.write_graph.Goals as goal
 
 pub returns-clause-text : goal.returns-clause-text

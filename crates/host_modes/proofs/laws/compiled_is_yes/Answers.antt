@@ -1,4 +1,4 @@
-use Rattle.host_modes.proofs.EndOnce.{compiled_is_yes}
+use Rattle.host_modes.proofs.EndOnceLaws.{compiled_is_yes}
 use Rattle.host_modes.proofs.laws.compiled_is_yes.Goals as goal
 
 pub returns : goal.returns

@@ -1,4 +1,4 @@
-use Rattle.host_modes.proofs.EndOnce.{end_is_one}
+use Rattle.host_modes.proofs.EndOnceLaws.{end_is_one}
 use Rattle.host_modes.proofs.laws.end_is_one.Goals as goal
 
 pub returns : goal.returns

@@ -5,7 +5,7 @@ use Rattle.lifetimes.specs.Reads.{AreLivesBy, ReadBefore}
 use Rattle.lifetimes.specs.contracts.reads.ReadOrd.TheImpl.Laws.{total-law}
 use Rattle.lifetimes.specs.declared.reads.Read.{Read}
 use Rattle.lifetimes.proofs.LifeFacts.{lives_permuted}
-use Rattle.lifetimes.proofs.ReadOrder.{reads_ascend}
+use Rattle.lifetimes.proofs.ReadOrderFacts.{reads_ascend}
 use Rattle.lifetimes.proofs.grouped.lives_by.Goals as goal
 
 pub grouped-requires : goal.grouped-requires

@@ -1,7 +1,7 @@
 use Rattle.std.proofs.Common.{◌≡◌, ◌==◌, ◌&&◌, ◌∙◌, refl, Bool, true, false, List, get_or, ap, arith, rules, unwrap_or, None}
 use Rattle.plan_model.specs.Buffers.{is_freed, is_reader}
 use Rattle.plan_model.specs.declared.buffers.Life.{Life}
-use Rattle.plan_model.proofs.Counts.{bit}
+use Rattle.plan_model.proofs.CountFacts.{bit}
 use Rattle.std.specs.HashMap.{get}
 use Rattle.lifetimes.specs.declared.taken.Turn.{Turn}
 use Rattle.lifetimes.specs.Turns.{same_turn, count_in}

@@ -2,8 +2,8 @@ use Rattle.std.proofs.Common.{◌≡◌, ◌<◌, ◌+ℤ◌, ◌-ℤ◌, ◌≤
 use Rattle.std.proofs.lemmas.Int.{ints, fits_signed_from_abs}
 use Rattle.shortest_paths.specs.Walks.{number_of}
 use Rattle.min_cost_flow.specs.Solve.{IsMeeting, wanted}
-use Rattle.min_cost_flow.proofs.SolveLemmas.{within_needs_of, most_some, wanted_falls, room_for, fits, IsMeeting-next}
-use Rattle.min_cost_flow.proofs.AdmissibleLemmas.{current_set, leaves_newest, ready_with, short_sum}
+use Rattle.min_cost_flow.proofs.SolveFacts.{within_needs_of, most_some, wanted_falls, room_for, fits, IsMeeting-next}
+use Rattle.min_cost_flow.proofs.AdmissibleFacts.{current_set, leaves_newest, ready_with, short_sum}
 use Rattle.min_cost_flow.proofs.admissible.empty_out.Goals as goal
 
 pub loop-trail-init : goal.loop-trail-init

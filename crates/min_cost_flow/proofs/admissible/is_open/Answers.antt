@@ -3,7 +3,7 @@ use Rattle.std.proofs.lemmas.Option.{slice_get-get_or}
 use Rattle.shortest_paths.specs.declared.edges.Edge.{Edge}
 use Rattle.shortest_paths.specs.Walks.{Joins, IsWithin, number_of}
 use Rattle.shortest_paths.specs.Nearest.{AreSmall}
-use Rattle.min_cost_flow.proofs.AdmissibleLemmas.{open_edge, numbers_each, numbers_small, edge_joins, edge_cost}
+use Rattle.min_cost_flow.proofs.AdmissibleFacts.{open_edge, numbers_each, numbers_small, edge_joins, edge_cost}
 use Rattle.min_cost_flow.proofs.admissible.is_open.Goals as goal
 
 pub bounds-is_on_path-edge : goal.bounds-is_on_path-edge

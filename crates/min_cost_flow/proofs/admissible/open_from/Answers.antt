@@ -1,9 +1,9 @@
 use Rattle.std.proofs.Common.{◌<◌, sym, subst, ◌∙◌, arith}
 use Rattle.std.proofs.lemmas.Option.{slice_get_within}
-use Rattle.shortest_paths.proofs.WalkLemmas.{some_same}
+use Rattle.shortest_paths.proofs.WalkLaws.{some_same}
 use Rattle.min_cost_flow.specs.Search.{potential_of}
 use Rattle.min_cost_flow.specs.Admissible.{IsAdmissibleAt}
-use Rattle.min_cost_flow.proofs.AdmissibleLemmas.{leaves_older, left_of, left_falls}
+use Rattle.min_cost_flow.proofs.AdmissibleFacts.{leaves_older, left_of, left_falls}
 use Rattle.min_cost_flow.proofs.admissible.open_from.Goals as goal
 
 pub returns-then-is_open-clause-open : goal.returns-then-is_open-clause-open

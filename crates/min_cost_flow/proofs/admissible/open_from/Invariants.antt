@@ -1,6 +1,6 @@
 use Rattle.std.proofs.Common.{◌≡◌, ℕ, Some}
 use Rattle.min_cost_flow.specs.Admissible.{LeavesAt}
-use Rattle.min_cost_flow.proofs.AdmissibleLemmas.{left_of}
+use Rattle.min_cost_flow.proofs.AdmissibleFacts.{left_of}
 use Rattle.min_cost_flow.proofs.admissible.open_from.Given as goal
 
 abbrev pub invariant-loop-next : goal.invariant-loop-next

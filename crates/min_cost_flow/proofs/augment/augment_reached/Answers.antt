@@ -2,7 +2,7 @@ use Rattle.std.proofs.Common.{◌≡◌, ◌<◌, ◌≤◌, pos, neg_ℤ, ◌+�
 use Rattle.std.proofs.lemmas.Int.{ints, fits_signed_from_abs}
 use Rattle.shortest_paths.specs.Walks.{number_of}
 use Rattle.min_cost_flow.specs.Solve.{IsMeeting, wanted}
-use Rattle.min_cost_flow.proofs.SolveLemmas.{within_needs_of, most_some, wanted_falls, room_for, fits, IsMeeting-next}
+use Rattle.min_cost_flow.proofs.SolveFacts.{within_needs_of, most_some, wanted_falls, room_for, fits, IsMeeting-next}
 use Rattle.min_cost_flow.proofs.augment.augment_reached.Goals as goal
 
 pub send-units-requires-clause-room : goal.send-units-requires-clause-room

@@ -1,4 +1,4 @@
-use Rattle.min_cost_flow.proofs.DualityLemmas.{tight_reaches_bound_law}
+use Rattle.min_cost_flow.proofs.DualityLaws.{tight_reaches_bound_law}
 use Rattle.min_cost_flow.proofs.laws.tight_reaches_bound.Goals as goal
 
 pub returns : goal.returns

@@ -1,4 +1,4 @@
-use Rattle.min_cost_flow.proofs.DualityLemmas.{weak_duality_law}
+use Rattle.min_cost_flow.proofs.DualityLaws.{weak_duality_law}
 use Rattle.min_cost_flow.proofs.laws.weak_duality.Goals as goal
 
 pub returns : goal.returns

@@ -2,7 +2,7 @@ use Rattle.std.proofs.Common.{◌+◌, pos, length, [], ◌∷◌, ◌++◌, get
 use Rattle.std.proofs.lemmas.Option.{slice_get-get_or}
 use Rattle.min_cost_flow.specs.declared.network.Arc.{Arc}
 use Rattle.min_cost_flow.specs.Residual.{forward, backward}
-use Rattle.min_cost_flow.proofs.ResidualLemmas.{IsResidualTo, IsResidualTo-forward, IsResidualTo-backward, IsResidual-all}
+use Rattle.min_cost_flow.proofs.ResidualFacts.{IsResidualTo, IsResidualTo-forward, IsResidualTo-backward, IsResidual-all}
 use Rattle.min_cost_flow.proofs.residual.residual_of.Goals as goal
 
 pub loop-k-preserved : goal.loop-k-preserved

@@ -1,5 +1,5 @@
 use Rattle.std.proofs.Common.{length}
-use Rattle.min_cost_flow.proofs.ResidualLemmas.{IsResidualTo}
+use Rattle.min_cost_flow.proofs.ResidualFacts.{IsResidualTo}
 use Rattle.min_cost_flow.proofs.residual.residual_of.Given as goal
 
 abbrev pub invariant-loop-k : goal.invariant-loop-k

@@ -4,12 +4,12 @@ use Rattle.std.proofs.lemmas.List.{length-replicate}
 use Rattle.shortest_paths.specs.declared.edges.Edge.{Edge}
 use Rattle.shortest_paths.specs.Walks.{IsWithin, Joins, HasNoNegativeCycle, Reaches, IsLeastCost, number_of}
 use Rattle.shortest_paths.specs.Leaving.{IsLeaving}
-use Rattle.shortest_paths.proofs.CutLemmas.{permits_from_least}
+use Rattle.shortest_paths.proofs.CutLaws.{permits_from_least}
 use Rattle.min_cost_flow.specs.Flow.{IsTight}
 use Rattle.min_cost_flow.specs.Search.{potential_of}
 use Rattle.min_cost_flow.specs.Residual.{forward, IsResidual}
-use Rattle.min_cost_flow.proofs.SolveLemmas.{forward_cycles, forward_reached, forward_joins, forward_costs, forward_length, first_tight, least_at_root}
-use Rattle.min_cost_flow.proofs.TightLemmas.{residual_joins}
+use Rattle.min_cost_flow.proofs.SolveFacts.{forward_cycles, forward_reached, forward_joins, forward_costs, forward_length, first_tight, least_at_root}
+use Rattle.min_cost_flow.proofs.TightFacts.{residual_joins}
 use Rattle.min_cost_flow.proofs.search.first_walks.Goals as goal
 
 pub new-requires-clause-few : goal.new-requires-clause-few

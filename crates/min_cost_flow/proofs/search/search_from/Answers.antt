@@ -5,7 +5,7 @@ use Rattle.shortest_paths.specs.Walks.{IsWithin, Joins, Reaches, EndsLeast, Clim
 use Rattle.shortest_paths.specs.Leaving.{IsLeaving}
 use Rattle.shortest_paths.specs.Usable.{usable}
 use Rattle.shortest_paths.specs.Nearest.{Permits}
-use Rattle.min_cost_flow.proofs.TightLemmas.{residual_joins, residual_costs, residual_reached, permits_from_tight, tight_from_permits, small_from_tight, searched_of}
+use Rattle.min_cost_flow.proofs.TightFacts.{residual_joins, residual_costs, residual_reached, permits_from_tight, tight_from_permits, small_from_tight, searched_of}
 use Rattle.min_cost_flow.proofs.search.search_from.Goals as goal
 
 pub run-requires-clause-few : goal.run-requires-clause-few

@@ -2,8 +2,8 @@ use Rattle.std.proofs.Common.{◌<◌, ◌+◌, length, min, cond, slice_index, 
 use Rattle.std.proofs.lemmas.Option.{slice_get_within, get_or_from_slice_get}
 use Rattle.min_cost_flow.specs.declared.network.Step.{Step}
 use Rattle.shortest_paths.specs.declared.edges.Edge.{Edge}
-use Rattle.min_cost_flow.proofs.SendLemmas.{here, arc_within, tail_below}
-use Rattle.min_cost_flow.proofs.CarryLemmas.{IsCarrying, first_carrying, step_carrying, all_carried}
+use Rattle.min_cost_flow.proofs.SendFacts.{here, arc_within, tail_below}
+use Rattle.min_cost_flow.proofs.CarryFacts.{IsCarrying, first_carrying, step_carrying, all_carried}
 use Rattle.min_cost_flow.proofs.send.carried_to.Goals as goal
 
 pub loop-init : goal.loop-init

@@ -1,5 +1,5 @@
 use Rattle.std.proofs.Common.{◌<◌}
-use Rattle.min_cost_flow.proofs.CarryLemmas.{IsCarrying}
+use Rattle.min_cost_flow.proofs.CarryFacts.{IsCarrying}
 use Rattle.min_cost_flow.proofs.send.carried_to.Given as goal
 
 abbrev pub invariant-loop : goal.invariant-loop

@@ -3,7 +3,7 @@ use Rattle.std.proofs.lemmas.Option.{slice_get_within, get_or_from_slice_get}
 use Rattle.min_cost_flow.specs.declared.network.Step.{Step}
 use Rattle.shortest_paths.specs.declared.edges.Edge.{Edge}
 use Rattle.min_cost_flow.specs.Residual.{after_step}
-use Rattle.min_cost_flow.proofs.SendLemmas.{IsSending, here, first_sending, step_within, step_has_units, step_sending, tail_below, sent_at_root}
+use Rattle.min_cost_flow.proofs.SendFacts.{IsSending, here, first_sending, step_within, step_has_units, step_sending, tail_below, sent_at_root}
 use Rattle.min_cost_flow.specs.Search.{potential_of}
 use Rattle.min_cost_flow.proofs.send.send.Goals as goal
 

@@ -1,5 +1,5 @@
 use Rattle.std.proofs.Common.{◌<◌}
-use Rattle.min_cost_flow.proofs.SendLemmas.{IsSending}
+use Rattle.min_cost_flow.proofs.SendFacts.{IsSending}
 use Rattle.min_cost_flow.proofs.send.send.Given as goal
 
 abbrev pub invariant-loop : goal.invariant-loop

@@ -5,7 +5,7 @@ use Rattle.std.proofs.lemmas.Int.{ints}
 use Rattle.shortest_paths.specs.Walks.{number_of}
 use Rattle.min_cost_flow.specs.Search.{IsReady}
 use Rattle.min_cost_flow.specs.Solve.{IsMeeting}
-use Rattle.min_cost_flow.proofs.SolveLemmas.{IsMeeting-first, none_above, none_below, MeetsNeeds-from_zeros, first_deficit, written_back}
+use Rattle.min_cost_flow.proofs.SolveFacts.{IsMeeting-first, none_above, none_below, MeetsNeeds-from_zeros, first_deficit, written_back}
 use Rattle.min_cost_flow.proofs.solver.least_flow.Goals as goal
 use Rattle.min_cost_flow.proofs.solver.least_flow.Goals.{in_default, in_default-2}
 

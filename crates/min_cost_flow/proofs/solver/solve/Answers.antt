@@ -4,9 +4,9 @@ use Rattle.std.proofs.lemmas.Int.{ints}
 use Rattle.shortest_paths.specs.Walks.{number_of, IsWithin}
 use Rattle.min_cost_flow.specs.Flow.{IsTight}
 use Rattle.min_cost_flow.specs.Search.{potential_of, IsReady}
-use Rattle.min_cost_flow.proofs.SolveLemmas.{number_of-map_neg, IsTight-same, all_small}
-use Rattle.min_cost_flow.proofs.TightLemmas.{small_from_tight, least_of_all}
-use Rattle.shortest_paths.proofs.WholeLemmas.{never_stopped}
+use Rattle.min_cost_flow.proofs.SolveFacts.{number_of-map_neg, IsTight-same, all_small}
+use Rattle.min_cost_flow.proofs.TightFacts.{small_from_tight, least_of_all}
+use Rattle.shortest_paths.proofs.WholeLaws.{never_stopped}
 use Rattle.min_cost_flow.proofs.solver.solve.Goals as goal
 
 pub search_from-requires-clause-ready : goal.search_from-requires-clause-ready

@@ -1,4 +1,4 @@
-use Rattle.orders.proofs.Counts.{orders_agree}
+use Rattle.orders.proofs.CountLaws.{orders_agree}
 use Rattle.orders.proofs.laws.orders_agree.Goals as goal
 
 pub returns : goal.returns

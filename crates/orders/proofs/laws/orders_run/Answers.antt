@@ -1,4 +1,4 @@
-use Rattle.orders.proofs.Counts.{orders_run}
+use Rattle.orders.proofs.CountLaws.{orders_run}
 use Rattle.orders.proofs.laws.orders_run.Goals as goal
 
 pub returns : goal.returns

@@ -1,4 +1,4 @@
-use Rattle.orders.proofs.Counts.{wires_read_alone}
+use Rattle.orders.proofs.CountLaws.{wires_read_alone}
 use Rattle.orders.proofs.laws.wires_read_alone.Goals as goal
 
 pub returns : goal.returns

@@ -3,7 +3,7 @@ use Rattle.std.proofs.lemmas.Option.{slice_get-get_or}
 use Rattle.plan_model.specs.declared.buffers.Home.{Home}
 use Rattle.plan_model.specs.declared.buffers.Life.{Life}
 use Rattle.plan_checker.proofs.ApartFacts.{apart_by, shares_by}
-use Rattle.plan_checker.proofs.SameTest.{same_test}
+use Rattle.plan_checker.proofs.SameTestFacts.{same_test}
 use Rattle.plan_checker.proofs.channels.are_apart.Goals as goal
 
 abbrev nowhere : Home

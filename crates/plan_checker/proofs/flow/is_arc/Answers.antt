@@ -5,7 +5,7 @@ use Rattle.plan_model.specs.Flows.{arc_between}
 use Rattle.plan_model.specs.declared.flow.Units.{Units}
 use Rattle.plan_checker.specs.Networks.{difference}
 use Rattle.plan_checker.proofs.FlowFacts.{arc_found, no_units, no_arc, first_arc, later_arc, comes_after, nothing_found, something_found, mapped_some, some_mapped}
-use Rattle.plan_checker.proofs.SameTest.{same_test}
+use Rattle.plan_checker.proofs.SameTestFacts.{same_test}
 use Rattle.plan_checker.proofs.flow.is_arc.Goals as goal
 
 abbrev nothing : Units

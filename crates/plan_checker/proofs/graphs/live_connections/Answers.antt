@@ -2,7 +2,7 @@ use Rattle.std.proofs.Common.{◌≡◌, ◌<◌, [], ◌∷◌, ◌++◌, ◌�
 use Rattle.graph_model.specs.Paths.{is_live}
 use Rattle.graph_model.specs.declared.graph.Connection.{Connection}
 use Rattle.graph_model.specs.declared.graph.Graph.{Graph}
-use Rattle.plan_checker.proofs.Filters.{passes_too, is_left_out}
+use Rattle.plan_checker.proofs.FilterFacts.{passes_too, is_left_out}
 use Rattle.plan_checker.proofs.graphs.live_connections.Goals as goal
 use Rattle.plan_checker.proofs.graphs.live_connections.Goals.{then-leads_to_live+in_ok-push, else-leads_to_live}
 

@@ -1,6 +1,6 @@
 use Rattle.std.proofs.Common.{◌≡◌, ◌∙◌, length, ap, arith}
 use Rattle.plan_model.specs.Rules.{path_latency}
-use Rattle.plan_checker.proofs.FlowSizes.{few_arcs, few_live}
+use Rattle.plan_checker.proofs.FlowSizeFacts.{few_arcs, few_live}
 use Rattle.plan_checker.proofs.PathFacts.{path_is_short}
 use Rattle.plan_checker.proofs.judged.judge_bound.Goals as goal
 

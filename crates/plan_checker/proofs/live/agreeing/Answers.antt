@@ -1,7 +1,7 @@
 use Rattle.std.proofs.Common.{◌≡◌, ◌==◌, ℕ, ◌∙◌, length, map, get_or, ap, arith, inl, inr}
 use Rattle.std.proofs.lemmas.Bool.{cases_lt}
 use Rattle.std.proofs.lemmas.List.{length-map, get_or-map}
-use Rattle.graph_model.proofs.Common.{not_same}
+use Rattle.graph_model.proofs.CommonFacts.{not_same}
 use Rattle.graph_model.proofs.PathLaws.{same_name}
 use Rattle.plan_model.specs.declared.alignment.At.{At}
 use Rattle.plan_checker.proofs.PrefixFacts.{agrees, differs, first_ends, second_ends}

@@ -4,7 +4,7 @@ use Rattle.std.specs.List.Sorted.{IsStrictlyIncreasing}
 use Rattle.graph_model.specs.declared.graph.Uid.{Uid}
 use Rattle.graph_model.specs.declared.list.List.{List as Sequence}
 use Rattle.plan_checker.specs.Waves.{IsNew, IsReady}
-use Rattle.plan_checker.proofs.SameTest.{same_test}
+use Rattle.plan_checker.proofs.SameTestFacts.{same_test}
 use Rattle.plan_checker.proofs.WaveFacts.{next_wave, next_new, next_ready}
 use Rattle.plan_checker.proofs.waves.is_next.Goals as goal
 

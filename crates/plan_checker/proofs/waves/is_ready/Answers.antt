@@ -4,7 +4,7 @@ use Rattle.std.proofs.lemmas.Option.{slice_get-get_or}
 use Rattle.graph_model.specs.declared.graph.Connection.{Connection}
 use Rattle.graph_model.specs.declared.graph.Graph.{Graph}
 use Rattle.plan_model.specs.Schedules.{names}
-use Rattle.plan_checker.proofs.SameTest.{same_test}
+use Rattle.plan_checker.proofs.SameTestFacts.{same_test}
 use Rattle.plan_checker.proofs.WaveFacts.{ready_beside, ready_idle, ready_from, comes_from}
 use Rattle.plan_checker.proofs.waves.is_ready.Goals as goal
 

@@ -4,7 +4,7 @@ use Rattle.std.proofs.lemmas.Int.{ints}
 use Rattle.std.proofs.lemmas.List.Elements.{All-cons}
 use Rattle.std.proofs.lemmas.List.Sorted.{All-permutation}
 use Rattle.shortest_paths.specs.Nearest.{waiter, IsWaiter}
-use Rattle.shortest_paths.proofs.WaitLemmas.{joined_waits, first_found, no_waiters, no_waiters_in_order}
+use Rattle.shortest_paths.proofs.WaitFacts.{joined_waits, first_found, no_waiters, no_waiters_in_order}
 use Rattle.shortest_paths.proofs.heap.begin.Goals as goal
 
 pub returns-clause-waits : goal.returns-clause-waits

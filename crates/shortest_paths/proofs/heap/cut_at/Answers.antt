@@ -3,7 +3,7 @@ use Rattle.std.proofs.lemmas.Int.{ints}
 use Rattle.shortest_paths.specs.Walks.{number_of, IsWithin}
 use Rattle.shortest_paths.specs.Search.{found}
 use Rattle.shortest_paths.specs.Nearest.{IsCutAt}
-use Rattle.shortest_paths.proofs.StopLemmas.{read_limit, read_sum}
+use Rattle.shortest_paths.proofs.StopFacts.{read_limit, read_sum}
 use Rattle.shortest_paths.proofs.heap.cut_at.Goals as goal
 
 pub returns-clause-here : goal.returns-clause-here

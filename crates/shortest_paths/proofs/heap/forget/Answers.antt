@@ -1,5 +1,5 @@
 use Rattle.std.proofs.Common.{◌≡◌, ◌+◌, ◌++◌, length, set, replicate, drop, None, sym, ap, ◌∙◌, arith, add-one}
-use Rattle.shortest_paths.proofs.FillLemmas.{fill_next, fill_end, fill_same, none_there}
+use Rattle.shortest_paths.proofs.FillFacts.{fill_next, fill_end, fill_same, none_there}
 use Rattle.shortest_paths.proofs.heap.forget.Goals as goal
 use Rattle.shortest_paths.proofs.heap.forget.Goals.{then-is_some, else-is_some}
 

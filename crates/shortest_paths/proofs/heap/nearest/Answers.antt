@@ -1,8 +1,8 @@
 use Rattle.std.proofs.Common.{◌≡◌, ℕ, ◌<◌, [], Some, None, refl, sym, subst, ◌∙◌, arith, slice_get}
 use Rattle.shortest_paths.specs.Walks.{Reaches, IsLeastCost, EndsLeast, ClimbsIn, number_of}
 use Rattle.shortest_paths.specs.Nearest.{Permits}
-use Rattle.shortest_paths.proofs.UsableLemmas.{usable_unlimited}
-use Rattle.shortest_paths.proofs.WholeLemmas.{permits_zero, never_stopped, whole_tree_at, whole_least, whole_none_at}
+use Rattle.shortest_paths.proofs.UsableLaws.{usable_unlimited}
+use Rattle.shortest_paths.proofs.WholeLaws.{permits_zero, never_stopped, whole_tree_at, whole_least, whole_none_at}
 use Rattle.shortest_paths.proofs.heap.nearest.Goals as goal
 
 pub run-requires-clause-permits : goal.run-requires-clause-permits

@@ -7,10 +7,10 @@ use Rattle.shortest_paths.specs.declared.edges.Edge.{Edge}
 use Rattle.shortest_paths.specs.Walks.{Joins}
 use Rattle.shortest_paths.specs.Usable.{usable}
 use Rattle.shortest_paths.specs.Nearest.{waiter, Waits, IsWaiter}
-use Rattle.shortest_paths.proofs.WalkLemmas.{some_same, edge_at}
-use Rattle.shortest_paths.proofs.EndLemmas.{found_within}
-use Rattle.shortest_paths.proofs.WaitLemmas.{improved, at_head, same_length, improved_room, waits_kept, improved_settled, loop_settled}
-use Rattle.shortest_paths.proofs.TurnLemmas.{IsRelaxed-none}
+use Rattle.shortest_paths.proofs.WalkLaws.{some_same, edge_at}
+use Rattle.shortest_paths.proofs.EndFacts.{found_within}
+use Rattle.shortest_paths.proofs.WaitFacts.{improved, at_head, same_length, improved_room, waits_kept, improved_settled, loop_settled}
+use Rattle.shortest_paths.proofs.TurnFacts.{IsRelaxed-none}
 use Rattle.shortest_paths.proofs.heap.relax_at.Goals as goal
 
 pub relax-requires-clause-bounded : goal.relax-requires-clause-bounded

@@ -3,8 +3,8 @@ use Rattle.std.specs.BinaryHeap.{heap_items, heap_len}
 use Rattle.std.proofs.lemmas.Option.{slice_get-get_or}
 use Rattle.shortest_paths.specs.Usable.{usable}
 use Rattle.shortest_paths.specs.Leaving.{IsLatest}
-use Rattle.shortest_paths.proofs.WalkLemmas.{some_same}
-use Rattle.shortest_paths.proofs.TurnLemmas.{IsRelaxed-none, IsRelaxed-then, start_done, done_next, done_all, latest_before, fewer_left, steps_left}
+use Rattle.shortest_paths.proofs.WalkLaws.{some_same}
+use Rattle.shortest_paths.proofs.TurnFacts.{IsRelaxed-none, IsRelaxed-then, start_done, done_next, done_all, latest_before, fewer_left, steps_left}
 use Rattle.shortest_paths.proofs.heap.relax_from.Goals as goal
 
 pub loop-next-init : goal.loop-next-init

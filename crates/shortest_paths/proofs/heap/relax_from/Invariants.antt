@@ -3,7 +3,7 @@ use Rattle.std.specs.BinaryHeap.{heap_items, heap_len}
 use Rattle.shortest_paths.specs.Usable.{usable}
 use Rattle.shortest_paths.specs.Leaving.{IsLatest}
 use Rattle.shortest_paths.specs.Nearest.{IsRelaxed}
-use Rattle.shortest_paths.proofs.TurnLemmas.{steps_left, IsDoneFrom}
+use Rattle.shortest_paths.proofs.TurnFacts.{steps_left, IsDoneFrom}
 use Rattle.shortest_paths.proofs.heap.relax_from.Given as goal
 
 abbrev pub invariant-loop-next : goal.invariant-loop-next

@@ -4,11 +4,11 @@ use Rattle.shortest_paths.specs.Walks.{IsWithin}
 use Rattle.shortest_paths.specs.Search.{IsSearched}
 use Rattle.shortest_paths.specs.Usable.{usable}
 use Rattle.shortest_paths.specs.Nearest.{AllWait, IsCut}
-use Rattle.shortest_paths.proofs.EndLemmas.{found_within}
-use Rattle.shortest_paths.proofs.RoundLemmas.{searched_first}
-use Rattle.shortest_paths.proofs.WaitLemmas.{waits_first}
-use Rattle.shortest_paths.proofs.CutLemmas.{permits_new, start_new, ends_new, tree_new}
-use Rattle.shortest_paths.proofs.StopLemmas.{read_limit, stop_far, stop_small, stop_reached}
+use Rattle.shortest_paths.proofs.EndFacts.{found_within}
+use Rattle.shortest_paths.proofs.RoundFacts.{searched_first}
+use Rattle.shortest_paths.proofs.WaitFacts.{waits_first}
+use Rattle.shortest_paths.proofs.CutLaws.{permits_new, start_new, ends_new, tree_new}
+use Rattle.shortest_paths.proofs.StopFacts.{read_limit, stop_far, stop_small, stop_reached}
 use Rattle.shortest_paths.proofs.heap.search_tree.Goals as goal
 
 pub settle-requires-clause-searched : goal.settle-requires-clause-searched

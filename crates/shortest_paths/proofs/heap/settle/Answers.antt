@@ -5,8 +5,8 @@ use Rattle.std.proofs.lemmas.List.Sorted.{All-permutation}
 use Rattle.shortest_paths.specs.Walks.{number_of}
 use Rattle.shortest_paths.specs.Usable.{usable}
 use Rattle.shortest_paths.specs.Nearest.{IsWaiter, AreWaiters, AreSettledBelow}
-use Rattle.shortest_paths.proofs.StopLemmas.{read_limit}
-use Rattle.shortest_paths.proofs.WaitLemmas.{taken, taken_late, settled_below}
+use Rattle.shortest_paths.proofs.StopFacts.{read_limit}
+use Rattle.shortest_paths.proofs.WaitFacts.{taken, taken_late, settled_below}
 use Rattle.shortest_paths.proofs.heap.settle.Goals as goal
 
 pub returns-then-is_enough-clause-settled : goal.returns-then-is_enough-clause-settled

@@ -3,7 +3,7 @@ use Rattle.std.proofs.lemmas.Option.{slice_get-get_or}
 use Rattle.std.proofs.lemmas.Bool.Decides.{nat_tests}
 use Rattle.shortest_paths.specs.declared.edges.Edge.{Edge}
 use Rattle.shortest_paths.specs.Usable.{limited, usable, loop_at}
-use Rattle.shortest_paths.proofs.UsableLemmas.{usable_free, usable_limited}
+use Rattle.shortest_paths.proofs.UsableLaws.{usable_free, usable_limited}
 use Rattle.shortest_paths.proofs.heap.usable_edge.Goals as goal
 
 pub returns-then-index-free : goal.returns-then-index-free

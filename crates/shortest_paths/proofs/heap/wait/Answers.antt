@@ -5,7 +5,7 @@ use Rattle.std.proofs.lemmas.Int.{ints, to_z-of_z}
 use Rattle.shortest_paths.specs.declared.edges.Best.{Best}
 use Rattle.shortest_paths.specs.Walks.{number_of}
 use Rattle.shortest_paths.specs.Nearest.{waiter, Waiter}
-use Rattle.shortest_paths.proofs.WalkLemmas.{some_same}
+use Rattle.shortest_paths.proofs.WalkLaws.{some_same}
 use Rattle.shortest_paths.proofs.heap.wait.Goals as goal
 
 pub returns-clause-joins : goal.returns-clause-joins

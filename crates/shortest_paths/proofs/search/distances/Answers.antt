@@ -1,8 +1,8 @@
 use Rattle.std.proofs.Common.{◌<◌, sym, IsSome, subst, arith}
 use Rattle.std.proofs.lemmas.Result.{IfOk-weaker}
 use Rattle.shortest_paths.specs.Search.{found, IsSearched}
-use Rattle.shortest_paths.proofs.FinalLemmas.{costs_least, last_ends_least, none_at_start_alone, climbs_to_start, found_all}
-use Rattle.shortest_paths.proofs.EndLemmas.{found_within}
+use Rattle.shortest_paths.proofs.FinalFacts.{costs_least, last_ends_least, none_at_start_alone, climbs_to_start, found_all}
+use Rattle.shortest_paths.proofs.EndFacts.{found_within}
 use Rattle.shortest_paths.proofs.search.distances.Goals as goal
 
 pub read_off-requires-clause-found : goal.read_off-requires-clause-found

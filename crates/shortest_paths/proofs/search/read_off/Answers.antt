@@ -1,6 +1,6 @@
 use Rattle.std.proofs.Common.{rules, ◌+◌, length, ap, ◌∙◌}
 use Rattle.std.proofs.lemmas.List.{length-append}
-use Rattle.shortest_paths.proofs.ReadLemmas.{found_below, more_costs, more_lasts, read_cost}
+use Rattle.shortest_paths.proofs.ReadFacts.{found_below, more_costs, more_lasts, read_cost}
 use Rattle.shortest_paths.proofs.search.read_off.Goals as goal
 
 pub loop-walk-preserved : goal.loop-walk-preserved

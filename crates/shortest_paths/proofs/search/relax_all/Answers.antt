@@ -3,8 +3,8 @@ use Rattle.std.specs.List.{All}
 use Rattle.shortest_paths.specs.declared.edges.Edge.{Edge}
 use Rattle.shortest_paths.specs.Walks.{Joins}
 use Rattle.shortest_paths.specs.Search.{IsSettled, IsSearched, room}
-use Rattle.shortest_paths.proofs.EndLemmas.{found_within}
-use Rattle.shortest_paths.proofs.RoundLemmas.{improved_room, improved_searched, settled_more}
+use Rattle.shortest_paths.proofs.EndFacts.{found_within}
+use Rattle.shortest_paths.proofs.RoundFacts.{improved_room, improved_searched, settled_more}
 use Rattle.shortest_paths.proofs.search.relax_all.Goals as goal
 use Rattle.shortest_paths.proofs.search.relax_all.Goals.{then-relax, else-relax}
 

@@ -1,6 +1,6 @@
 use Rattle.std.proofs.Common.{pos, Some, None, sym, ◌∙◌, subst, set}
 use Rattle.shortest_paths.specs.Search.{IsSearched, AreSettled}
-use Rattle.shortest_paths.proofs.RoundLemmas.{searched_first, written_back}
+use Rattle.shortest_paths.proofs.RoundFacts.{searched_first, written_back}
 use Rattle.shortest_paths.proofs.search.search.Goals as goal
 
 pub loop-init : goal.loop-init

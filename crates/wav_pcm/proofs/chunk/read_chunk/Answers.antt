@@ -1,5 +1,5 @@
 use Rattle.std.proofs.Common.{refl}
-use Rattle.wav_pcm.proofs.Told.{told_more}
+use Rattle.wav_pcm.proofs.ToldLaws.{told_more}
 use Rattle.wav_pcm.proofs.ChunkLaws.{chunk_in}
 use Rattle.wav_pcm.proofs.chunk.read_chunk.Goals as goal
 

@@ -1,7 +1,7 @@
 use Rattle.std.proofs.Common.{◌≡◌, subst, sym, arith, rules}
 use Rattle.gh_outside.specs.Holdings.{HeldBytes}
 use Rattle.wav_pcm.specs.Chunks.{chunk_at}
-use Rattle.wav_pcm.proofs.Told.{told_more, told_both}
+use Rattle.wav_pcm.proofs.ToldLaws.{told_more, told_both}
 use Rattle.wav_pcm.proofs.ChunkLaws.{walked_more, walked_end, walked_data}
 use Rattle.wav_pcm.proofs.chunk.read_chunks.Goals as goal
 

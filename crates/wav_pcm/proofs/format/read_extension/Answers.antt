@@ -1,5 +1,5 @@
 use Rattle.std.proofs.Common.{refl, arith}
-use Rattle.wav_pcm.proofs.Told.{told_more}
+use Rattle.wav_pcm.proofs.ToldLaws.{told_more}
 use Rattle.wav_pcm.proofs.FormatLaws.{extension_some}
 use Rattle.wav_pcm.proofs.format.read_extension.Goals as goal
 

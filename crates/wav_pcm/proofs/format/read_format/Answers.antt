@@ -1,7 +1,7 @@
 use Rattle.std.proofs.Common.{◌≡◌, refl, subst}
 use Rattle.gh_outside.specs.Holdings.{HeldBytes}
 use Rattle.wav_pcm.specs.Formats.{extension_in}
-use Rattle.wav_pcm.proofs.Told.{told_more, told_both}
+use Rattle.wav_pcm.proofs.ToldLaws.{told_more, told_both}
 use Rattle.wav_pcm.proofs.FormatLaws.{format_from}
 use Rattle.wav_pcm.proofs.format.read_format.Goals as goal
 

@@ -1,5 +1,5 @@
 use Rattle.std.proofs.Common.{◌∙◌, arith}
-use Rattle.wav_pcm.proofs.Told.{told_more}
+use Rattle.wav_pcm.proofs.ToldLaws.{told_more}
 use Rattle.wav_pcm.proofs.HeadLaws.{wave_start}
 use Rattle.wav_pcm.proofs.reading.read_is_wave.Goals as goal
 

@@ -1,6 +1,6 @@
 use Rattle.std.proofs.Common.{ap, ◌∙◌}
 use Rattle.wav_pcm.specs.Samples.{scaled}
-use Rattle.wav_pcm.proofs.Sizes.{scaled_product}
+use Rattle.wav_pcm.proofs.SizeFacts.{scaled_product}
 use Rattle.wav_pcm.proofs.sample.get_scaled.Goals as goal
 
 pub returns-clause-value : goal.returns-clause-value

@@ -1,6 +1,6 @@
 use Rattle.std.proofs.Common.{◌/◌, ◌++◌, drop, ap, ◌∙◌}
 use Rattle.wav_pcm.specs.Samples.{sample_bytes}
-use Rattle.wav_pcm.proofs.Sizes.{clamped_is}
+use Rattle.wav_pcm.proofs.SizeFacts.{clamped_is}
 use Rattle.wav_pcm.proofs.sample.put_scaled.Goals as goal
 
 pub returns : goal.returns

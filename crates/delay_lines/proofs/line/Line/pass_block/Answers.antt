@@ -1,6 +1,6 @@
 use Rattle.std.proofs.Common.{◌≡◌, ◌++◌, ◌-◌, List, length, drop, min, ℤ, ℕ, ap, ◌∙◌}
 use Rattle.circular_buffer.specs.Buffer.{Buffer}
-use Rattle.delay_lines.proofs.Passed.{passed_all}
+use Rattle.delay_lines.proofs.PassedFacts.{passed_all}
 use Rattle.delay_lines.proofs.line.Line.pass_block.Goals as goal
 
 pub returns-clause-passed : goal.returns-clause-passed

@@ -1,7 +1,7 @@
 use Rattle.std.proofs.Common.{length, ◌/◌, inl, inr, ap, ◌∙◌, subst, Contains, arith, rules}
 use Rattle.std.proofs.lemmas.Grind.{common_steps}
 use Rattle.gh_outside.specs.Memory.{HasFree, PassesRoom}
-use Rattle.gh_outside.proofs.Places.{passes_room}
+use Rattle.gh_outside.proofs.PlaceFacts.{passes_room}
 use Rattle.gh_outside.proofs.memory.MemoryFolderFolder.append.Goals as goal
 
 -- half of the piece

@@ -1,5 +1,5 @@
 -- A step.
-use Rattle.graph_gen.proofs.Steps.{next_is}
+use Rattle.graph_gen.proofs.StepFacts.{next_is}
 use Rattle.graph_gen.proofs.draws.Draws.step.Goals as goal
 
 pub returns-clause-state : goal.returns-clause-state

@@ -1,6 +1,6 @@
 use Rattle.std.proofs.Common.{subst}
 use Rattle.connections.specs.Faults.{IsRefusal}
-use Rattle.host_modes.proofs.EndOnce.{unsound}
+use Rattle.host_modes.proofs.EndOnceLaws.{unsound}
 use Rattle.host_modes.proofs.modes.demo.checked.Goals as goal
 
 pub unreachable-requires : goal.unreachable-requires

@@ -1,6 +1,6 @@
 use Rattle.std.proofs.Common.{subst}
 use Rattle.plan_checker.specs.Verdicts.{IsRefusal}
-use Rattle.host_modes.proofs.EndOnce.{not_refused}
+use Rattle.host_modes.proofs.EndOnceLaws.{not_refused}
 use Rattle.host_modes.proofs.modes.demo.judge.Goals as goal
 
 pub unreachable-requires : goal.unreachable-requires

@@ -1,7 +1,7 @@
 use Rattle.std.proofs.Common.{[], ◌∷◌, length, sym, ap, subst, ◌∙◌, arith}
 use Rattle.std.proofs.lemmas.List.{length-append}
 use Rattle.min_cost_flow.specs.Admissible.{AreCurrent}
-use Rattle.min_cost_flow.proofs.AdmissibleLemmas.{current_push, leaves_newest}
+use Rattle.min_cost_flow.proofs.AdmissibleFacts.{current_push, leaves_newest}
 use Rattle.min_cost_flow.proofs.admissible.Trail.new.Goals as goal
 
 pub loop-point-preserved : goal.loop-point-preserved

@@ -1,6 +1,6 @@
 use Rattle.std.proofs.Common.{false, length, length-set, subst, ◌∙◌, arith}
 use Rattle.min_cost_flow.specs.Search.{potential_of}
-use Rattle.min_cost_flow.proofs.AdmissibleLemmas.{IsSpread, IsSpread-next, last_of, last_within}
+use Rattle.min_cost_flow.proofs.AdmissibleFacts.{IsSpread, IsSpread-next, last_of, last_within}
 use Rattle.min_cost_flow.proofs.admissible.Trail.send.Goals as goal
 
 pub bounds-flow-index : goal.bounds-flow-index

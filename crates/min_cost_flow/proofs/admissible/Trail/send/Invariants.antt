@@ -1,7 +1,7 @@
 use Rattle.std.proofs.Common.{ℕ, length}
 use Rattle.min_cost_flow.specs.Search.{potential_of}
 use Rattle.min_cost_flow.specs.Admissible.{IsAdmissiblePath, IsTrail}
-use Rattle.min_cost_flow.proofs.AdmissibleLemmas.{IsSpread}
+use Rattle.min_cost_flow.proofs.AdmissibleFacts.{IsSpread}
 use Rattle.min_cost_flow.proofs.admissible.Trail.send.Given as goal
 
 abbrev pub invariant-loop-index : goal.invariant-loop-index

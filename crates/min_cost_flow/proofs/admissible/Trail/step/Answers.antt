@@ -1,11 +1,11 @@
 use Rattle.std.proofs.Common.{Some, refl, sym, ap, subst, ◌∙◌}
 use Rattle.std.proofs.lemmas.Option.{slice_get-get_or, slice_get_within}
 use Rattle.shortest_paths.specs.declared.edges.Edge.{Edge}
-use Rattle.shortest_paths.proofs.WalkLemmas.{some_same}
+use Rattle.shortest_paths.proofs.WalkLaws.{some_same}
 use Rattle.min_cost_flow.specs.Residual.{forward}
 use Rattle.min_cost_flow.specs.Search.{potential_of}
 use Rattle.min_cost_flow.specs.Admissible.{IsAdmissiblePath}
-use Rattle.min_cost_flow.proofs.AdmissibleLemmas.{path_on, edge_of}
+use Rattle.min_cost_flow.proofs.AdmissibleFacts.{path_on, edge_of}
 use Rattle.min_cost_flow.proofs.admissible.Trail.step.Goals as goal
 
 pub returns-clause-path : goal.returns-clause-path

@@ -1,8 +1,8 @@
 use Rattle.std.proofs.Common.{false, length-set, sym, subst, ◌∙◌, arith}
-use Rattle.shortest_paths.proofs.WalkLemmas.{some_same}
+use Rattle.shortest_paths.proofs.WalkLaws.{some_same}
 use Rattle.min_cost_flow.specs.Search.{potential_of}
 use Rattle.min_cost_flow.specs.Admissible.{IsAdmissiblePath, LeavesAt}
-use Rattle.min_cost_flow.proofs.AdmissibleLemmas.{last_of, leaves_older, current_set}
+use Rattle.min_cost_flow.proofs.AdmissibleFacts.{last_of, leaves_older, current_set}
 use Rattle.min_cost_flow.proofs.admissible.Trail.step_back.Goals as goal
 
 pub index-requires : goal.index-requires

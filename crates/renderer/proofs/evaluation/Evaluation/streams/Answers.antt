@@ -1,7 +1,7 @@
 use Rattle.std.proofs.Common.{get_or, sym, subst}
 use Rattle.topology.specs.Answers.{IsOrderOfNodes}
 use Rattle.renderer.specs.Evaluations.{HasSources}
-use Rattle.renderer.proofs.OrderSteps.{sources_found, found_all}
+use Rattle.renderer.proofs.OrderStepFacts.{sources_found, found_all}
 use Rattle.renderer.proofs.evaluation.Evaluation.streams.Goals as goal
 
 pub outgoing-requires-clause-sources : goal.outgoing-requires-clause-sources

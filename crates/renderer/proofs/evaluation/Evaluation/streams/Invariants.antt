@@ -1,4 +1,4 @@
-use Rattle.renderer.proofs.OrderSteps.{AreFound}
+use Rattle.renderer.proofs.OrderStepFacts.{AreFound}
 use Rattle.renderer.proofs.evaluation.Evaluation.streams.Given as goal
 
 -- the nodes so far

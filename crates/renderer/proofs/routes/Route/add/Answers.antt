@@ -1,5 +1,5 @@
 use Rattle.std.proofs.Common.{◌∙◌}
-use Rattle.renderer.proofs.Adding.{added_more, sum_is}
+use Rattle.renderer.proofs.AddingFacts.{added_more, sum_is}
 use Rattle.renderer.proofs.routes.Route.add.Goals as goal
 
 pub loop-time-preserved : goal.loop-time-preserved

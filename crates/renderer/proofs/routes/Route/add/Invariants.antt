@@ -1,4 +1,4 @@
-use Rattle.renderer.proofs.Adding.{IsAddedUpTo}
+use Rattle.renderer.proofs.AddingFacts.{IsAddedUpTo}
 use Rattle.renderer.proofs.routes.Route.add.Given as goal
 
 -- the frames so far

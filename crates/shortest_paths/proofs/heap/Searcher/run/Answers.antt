@@ -6,9 +6,9 @@ use Rattle.shortest_paths.specs.declared.edges.Edge.{Edge}
 use Rattle.shortest_paths.specs.Walks.{IsWithin, Joins, number_of}
 use Rattle.shortest_paths.specs.Usable.{usable}
 use Rattle.shortest_paths.specs.Nearest.{IsLinked}
-use Rattle.shortest_paths.proofs.UsableLemmas.{usable_all}
-use Rattle.shortest_paths.proofs.WalkLemmas.{no_cycle_from_potentials}
-use Rattle.shortest_paths.proofs.FillLemmas.{lent_back}
+use Rattle.shortest_paths.proofs.UsableLaws.{usable_all}
+use Rattle.shortest_paths.proofs.WalkLaws.{no_cycle_from_potentials}
+use Rattle.shortest_paths.proofs.FillFacts.{lent_back}
 use Rattle.shortest_paths.proofs.heap.Searcher.run.Goals as goal
 
 pub search_tree-requires-clause-ends : goal.search_tree-requires-clause-ends

@@ -1,7 +1,7 @@
 use Rattle.std.proofs.Common.{◌+◌, pos, Some, set, slice_index_or, sym, ap, subst, ◌∙◌, arith}
 use Rattle.std.proofs.lemmas.Option.{slice_get-get_or}
 use Rattle.shortest_paths.specs.declared.edges.Edge.{Edge}
-use Rattle.shortest_paths.proofs.LeavingLemmas.{IsLeavingTo, leaving_next, leaving_all}
+use Rattle.shortest_paths.proofs.LeavingFacts.{IsLeavingTo, leaving_next, leaving_all}
 use Rattle.shortest_paths.proofs.leaving.Leaving.new.Goals as goal
 
 pub loop-index-preserved : goal.loop-index-preserved

@@ -1,4 +1,4 @@
-use Rattle.shortest_paths.proofs.LeavingLemmas.{IsLeavingTo}
+use Rattle.shortest_paths.proofs.LeavingFacts.{IsLeavingTo}
 use Rattle.shortest_paths.proofs.leaving.Leaving.new.Given as goal
 
 abbrev pub invariant-loop-index : goal.invariant-loop-index
