@@ -35,7 +35,8 @@ pub record AreNames {P E L : Type 0} (t : Terms P E L) (root : P) (names : List 
   pub first : name_by root names 0 ≡ root
 
 -- the arcs are the differences, by the numbers of their ends
-pub record AreArcsBy {P E L : Type 0} (t : Terms P E L) (root : P) (names : List P) (differences : List (Difference P)) (arcs : List Arc) : Type 0 where
+pub record AreArcsBy {P E L : Type 0} (t : Terms P E L) (root : P) (names : List P) (differences : List (Difference P))
+    (arcs : List Arc) : Type 0 where
   pub ends : All (λ a. (a.tail < length names) × (a.head < length names)) arcs
   pub each : All (λ a. Contains differences (named_by root names a)) arcs
   pub all : All (λ d. Contains (map (named_by root names) arcs) d) differences

@@ -19,7 +19,8 @@ read_at c = record { uid = c.src.0; channel = c.src_channel }
 
 -- the value that a link's connection reads
 abbrev pub read_of : Graph → Link → Value
-read_of g l = read_at (get_or g.connections l.index (record { src = record { 0 = 0 }; src_channel = 0; dst = record { 0 = 0 }; dst_channel = 0 }))
+read_of g l = read_at (get_or g.connections l.index (
+    record { src = record { 0 = 0 }; src_channel = 0; dst = record { 0 = 0 }; dst_channel = 0 }))
 
 -- by node, then by channel
 abbrev pub value_order : Value → Value → Ordering

@@ -10,7 +10,9 @@ joint c = record { source = c.src.0; source_channel = c.src_channel; destination
 
 abbrev pub same_joint : Joint → Joint → Bool
 same_joint x y =
-    (x.source == y.source) && ((x.source_channel == y.source_channel) && ((x.destination == y.destination) && (x.destination_channel == y.destination_channel)))
+    (x.source == y.source)
+    && ((x.source_channel == y.source_channel)
+    && ((x.destination == y.destination) && (x.destination_channel == y.destination_channel)))
 
 -- what is kept of a connection
 abbrev pub place_in : {S : Type 0} → HashMap Joint ℕ S → Connection → Option ℕ

@@ -26,7 +26,8 @@ abbrev pub AreDelays : Plan → List ℕ → Type 0
 AreDelays plan delays = delays ≡ map (λ l. l.delay) plan.lines
 
 -- the jobs are those of a certified plan, and stand for some history of small frames
-pub record IsWorking (graph : Graph) (plan : Plan) (block frames : ℕ) (s : Shape) (jobs : List (Job Player)) (pool : List (List ℤ)) : Type 0 where
+pub record IsWorking (graph : Graph) (plan : Plan) (block frames : ℕ) (s : Shape) (jobs : List (Job Player))
+    (pool : List (List ℤ)) : Type 0 where
   pub sound : IsSound graph
   pub certified : IsCertified graph plan
   pub history : History
@@ -56,7 +57,8 @@ pub record MayRender (s : Shape) (frames : ℕ) (jobs : List (Job Player)) (pool
   pub count : frames + length input / s.ins < 2 ^ 63
 
 -- and it has been
-pub record IsRendered (s : Shape) (frames : ℕ) (jobs : List (Job Player)) (pool : List (List ℤ)) (input : List ℤ) (jobs' : List (Job Player)) (pool' : List (List ℤ)) (output' : List ℤ) : Type 0 where
+pub record IsRendered (s : Shape) (frames : ℕ) (jobs : List (Job Player)) (pool : List (List ℤ)) (input : List ℤ)
+    (jobs' : List (Job Player)) (pool' : List (List ℤ)) (output' : List ℤ) : Type 0 where
   pub jobs_len : length jobs' ≡ length jobs
   pub pool_len : length pool' ≡ length pool
   pub output_len : length output' ≡ length input / s.ins * s.outs
@@ -64,7 +66,9 @@ pub record IsRendered (s : Shape) (frames : ℕ) (jobs : List (Job Player)) (poo
       → IsWorking graph plan block (frames + length input / s.ins) s jobs' pool'
   pub any : (graph : Graph) (plan : Plan) (block : ℕ) → IsWorking graph plan block frames s jobs pool → length input / s.ins ≤ block
       → (h : History) → Stands (parts_of graph plan block frames jobs pool) h
-      → AnyOrder (parts_of graph plan block frames jobs pool) (parts_of graph plan block (frames + length input / s.ins) jobs' pool') input output' h
+      → AnyOrder (parts_of graph plan block frames jobs pool)
+          (parts_of graph plan block (frames + length input / s.ins) jobs' pool') input output' h
   pub both : (graph : Graph) (plan : Plan) (block : ℕ) → IsWorking graph plan block frames s jobs pool → length input / s.ins ≤ block
       → (h : History) → Stands (parts_of graph plan block frames jobs pool) h
-      → Stands (parts_of graph plan block (frames + length input / s.ins) jobs' pool') (frames_of s.ins input ++ h) × Answers (parts_of graph plan block frames jobs pool) input output' h
+      → Stands (parts_of graph plan block (frames + length input / s.ins) jobs' pool') (frames_of s.ins input ++ h)
+      × Answers (parts_of graph plan block frames jobs pool) input output' h

@@ -31,7 +31,9 @@ HaveRendered e (b ∷ bs) e' = (f : Parts) × HasRendered e b.0 b.1 f × HaveRen
 
 -- no cutting shows: the blocks joined are as one block
 abbrev pub NoCuttingShows : Type 0
-NoCuttingShows = (e e' : Parts) (blocks : List Block) → IsSound e.graph → HaveRendered e blocks e' → HasRendered e (inputs blocks) (outputs blocks) e'
+NoCuttingShows =
+    (e e' : Parts) (blocks : List Block) → IsSound e.graph → HaveRendered e blocks e'
+    → HasRendered e (inputs blocks) (outputs blocks) e'
 
 -- so of a new engine the outputs joined are the answer of the inputs joined
 abbrev pub OutputsAreAnswers : Type 0

@@ -44,7 +44,8 @@ gone_into g p h c = channel c.src_channel (gone_out g p h c.src.0)
 
 -- the kernel of a node between the ends stands for what came in, and each line holds the last samples that went into it
 pub record JobHolds (g : Graph) (p : ℕ → ℕ) (came : History) (passed : Connection → List ℤ) (j : Job) : Type 0 where
-  pub kernel : (n : Node) → node_named g j.node ≡ Some n → is_input n.kind ≡ false → is_output n.kind ≡ false → StandsFor n.kind j.kernel came
+  pub kernel : (n : Node) → node_named g j.node ≡ Some n → is_input n.kind ≡ false → is_output n.kind ≡ false
+      → StandsFor n.kind j.kernel came
   pub lines : j.lines ≡ map (λ c. window (delay g p c) (passed c)) (connections_into g j.node)
 
 abbrev pub JobStands : Graph → (ℕ → ℕ) → History → Job → Type 0
@@ -86,4 +87,5 @@ pub record IsSame (e e' : Parts) : Type 0 where
 
 -- where the input comes in after h, the output has the last frames of the answer
 abbrev pub Answers : Parts → List ℤ → List ℤ → History → Type 0
-Answers e input output h = frames_of (outs e) output ≡ take (length (frames_of (ins e) input)) (answer e.graph (frames_of (ins e) input ++ h))
+Answers e input output h =
+    frames_of (outs e) output ≡ take (length (frames_of (ins e) input)) (answer e.graph (frames_of (ins e) input ++ h))

@@ -39,7 +39,8 @@ after_orders e input h orders =
 
 -- the job is as the events leave its node
 pub record JobIsLeft (g : Graph) (p : ℕ → ℕ) (s : Kept) (j : Job) : Type 0 where
-  pub kernel : (n : Node) → node_named g j.node ≡ Some n → is_input n.kind ≡ false → is_output n.kind ≡ false → StandsFor n.kind j.kernel s.came
+  pub kernel : (n : Node) → node_named g j.node ≡ Some n → is_input n.kind ≡ false → is_output n.kind ≡ false
+      → StandsFor n.kind j.kernel s.came
   pub lines : j.lines ≡ windows_on (delays_into g p j.node) s.passed
 
 -- the engine is as the events leave it; the output has the n frames that came last into the output node
@@ -50,5 +51,6 @@ pub record IsLeftBy (e : Parts) (n : ℕ) (output : List ℤ) (s : core.State Ke
 
 -- and so it is for every order of the events
 abbrev pub AnyOrder : Parts → Parts → List ℤ → List ℤ → History → Type 0
-AnyOrder e e' input output h = (n : ℕ) (orders : List (List ℕ)) → length input ≡ n * ins e → core.AreOrdersOf n (map names e.plan.waves) orders →
+AnyOrder e e' input output h =
+    (n : ℕ) (orders : List (List ℕ)) → length input ≡ n * ins e → core.AreOrdersOf n (map names e.plan.waves) orders →
     IsLeftBy e' n output (after_orders e input h orders)

@@ -49,7 +49,8 @@ delays_into g p v = map (λ c. delay g p c) (connections_into g v)
 -- the frame that event k of a node takes: of the input node frame k of the block
 abbrev pub taken : Graph → (ℕ → ℕ) → (ℕ → Frame) → ℕ → ℕ → Option Node → List (List ℤ) → Frame
 taken g p block v k None passed = []
-taken g p block v k (Some n) passed = if is_input n.kind then block k else summed (ins_at g v) (channels_into g v) (delays_into g p v) passed
+taken g p block v k (Some n) passed =
+    if is_input n.kind then block k else summed (ins_at g v) (channels_into g v) (delays_into g p v) passed
 
 abbrev pub takes_in : Graph → (ℕ → ℕ) → (ℕ → Frame) → ℕ → ℕ → Kept → List (List ℤ) → Kept
 takes_in g p block v k s passed = record { came = taken g p block v k (node_named g v) passed ∷ s.came; passed = passed }

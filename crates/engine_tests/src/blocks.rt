@@ -45,6 +45,7 @@ pub struct Widths {
     pub outs: usize,
 }
 
+/// How many channels the input and the output of a graph have.
 pub fn widths_of(checked: &Checked) -> Widths
     ensures ins { result.ins ≡ in_channels checked.now }
     ensures outs { result.outs ≡ out_channels checked.now }

@@ -57,11 +57,13 @@ HasFree files name free = (held : List ℕ) × (holding files name ≡ Some held
 
 -- The name is held, and its room has a place for so many bytes more.
 abbrev pub FitsRoom : List StoredFile → List ℕ → ℕ → Type 0
-FitsRoom files name more = (held : List ℕ) × (room : ℕ) × (holding files name ≡ Some held) × (room_of files name ≡ Some room) × (length held + more ≤ room)
+FitsRoom files name more =
+    (held : List ℕ) × (room : ℕ) × (holding files name ≡ Some held) × (room_of files name ≡ Some room) × (length held + more ≤ room)
 
 -- The name is held, and so many bytes more pass its room.
 abbrev pub PassesRoom : List StoredFile → List ℕ → ℕ → Type 0
-PassesRoom files name more = (held : List ℕ) × (room : ℕ) × (holding files name ≡ Some held) × (room_of files name ≡ Some room) × (room < length held + more)
+PassesRoom files name more =
+    (held : List ℕ) × (room : ℕ) × (holding files name ≡ Some held) × (room_of files name ≡ Some room) × (room < length held + more)
 
 -- Each name has the room that it had.
 abbrev pub KeepsRooms : List StoredFile → List StoredFile → Type 0

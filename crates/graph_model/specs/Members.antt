@@ -52,14 +52,18 @@ tests_of (Mixer ins outs gains) =
     (member.Ins, is_from 1 32 ins) ∷ (member.Outs, is_from 1 32 outs)
     ∷ (member.Gains, (length gains == ins * outs) && list_all (is_small (2 ^ 20)) gains) ∷ []
 tests_of (Fir channels taps shift latency) =
-    (member.Channels, is_from 1 32 channels) ∷ (member.Taps, is_from 1 4096 (length taps) && list_all (λ h. nat_lt (unsigned_abs h) (2 ^ 24)) taps)
+    (member.Channels, is_from 1 32 channels)
+    ∷ (member.Taps, is_from 1 4096 (length taps) && list_all (λ h. nat_lt (unsigned_abs h) (2 ^ 24)) taps)
     ∷ (member.Shift, nat_le shift 30) ∷ (member.Latency, nat_lt latency (length taps)) ∷ []
 tests_of (Biquad channels b0 b1 b2 a1 a2 shift bits) =
-    (member.Channels, is_from 1 32 channels) ∷ (member.B0, nat_lt (unsigned_abs b0) (2 ^ 31)) ∷ (member.B1, nat_lt (unsigned_abs b1) (2 ^ 31))
-    ∷ (member.B2, nat_lt (unsigned_abs b2) (2 ^ 31)) ∷ (member.A1, nat_lt (unsigned_abs a1) (2 ^ 31)) ∷ (member.A2, nat_lt (unsigned_abs a2) (2 ^ 31))
+    (member.Channels, is_from 1 32 channels) ∷ (member.B0, nat_lt (unsigned_abs b0) (2 ^ 31))
+    ∷ (member.B1, nat_lt (unsigned_abs b1) (2 ^ 31))
+    ∷ (member.B2, nat_lt (unsigned_abs b2) (2 ^ 31)) ∷ (member.A1, nat_lt (unsigned_abs a1) (2 ^ 31))
+    ∷ (member.A2, nat_lt (unsigned_abs a2) (2 ^ 31))
     ∷ (member.Shift, is_from 1 30 shift) ∷ (member.Bits, is_from 16 40 bits) ∷ []
 tests_of (Limiter channels threshold lookahead) =
-    (member.Channels, is_from 1 32 channels) ∷ (member.Threshold, is_from 1 (2 ^ 46) threshold) ∷ (member.Lookahead, is_from 1 8192 lookahead) ∷ []
+    (member.Channels, is_from 1 32 channels) ∷ (member.Threshold, is_from 1 (2 ^ 46) threshold)
+    ∷ (member.Lookahead, is_from 1 8192 lookahead) ∷ []
 tests_of (Delay channels samples) = (member.Channels, is_from 1 32 channels) ∷ (member.Samples, is_from 1 (2 ^ 20) samples) ∷ []
 tests_of (Insert channels samples) = (member.Channels, is_from 1 32 channels) ∷ (member.Samples, nat_le samples (2 ^ 20)) ∷ []
 

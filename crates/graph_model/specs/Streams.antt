@@ -44,4 +44,6 @@ abbrev pub IncomingIsBefore : Type 0
 IncomingIsBefore = (g : Graph) (p : ℕ → ℕ) (x : ℕ → Frame) (v n : ℕ) → incoming g p (before x n) v ≡ before (in_at g p x v) n
 
 abbrev pub OutgoingIsBefore : Type 0
-OutgoingIsBefore = (g : Graph) (p rank : ℕ → ℕ) (x : ℕ → Frame) (v n : ℕ) → IsRanked rank g → IsNode g v → outgoing g p (before x n) v ≡ before (out_at g p x v) n
+OutgoingIsBefore =
+    (g : Graph) (p rank : ℕ → ℕ) (x : ℕ → Frame) (v n : ℕ) → IsRanked rank g → IsNode g v
+    → outgoing g p (before x n) v ≡ before (out_at g p x v) n

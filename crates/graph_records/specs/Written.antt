@@ -41,14 +41,16 @@ kind_data uid (Gain channels gain) = record_data ((member.Channels, unsigned_dat
     ∷ (member.Kind, string (codes "gain")) ∷ (member.Uid, unsigned_data uid) ∷ [])
 kind_data uid (Mixer ins outs gains) = record_data ((member.Gains, list_data (map signed_data gains)) ∷ (member.Ins, unsigned_data ins)
     ∷ (member.Kind, string (codes "mixer")) ∷ (member.Outs, unsigned_data outs) ∷ (member.Uid, unsigned_data uid) ∷ [])
-kind_data uid (Fir channels taps shift latency) = record_data ((member.Channels, unsigned_data channels) ∷ (member.Kind, string (codes "fir"))
+kind_data uid (Fir channels taps shift latency) =
+    record_data ((member.Channels, unsigned_data channels) ∷ (member.Kind, string (codes "fir"))
     ∷ (member.Latency, unsigned_data latency) ∷ (member.Shift, unsigned_data shift) ∷ (member.Taps, list_data (map signed_data taps))
     ∷ (member.Uid, unsigned_data uid) ∷ [])
 kind_data uid (Biquad channels b0 b1 b2 a1 a2 shift bits) = record_data ((member.A1, signed_data a1) ∷ (member.A2, signed_data a2)
     ∷ (member.B0, signed_data b0) ∷ (member.B1, signed_data b1) ∷ (member.B2, signed_data b2) ∷ (member.Bits, unsigned_data bits)
     ∷ (member.Channels, unsigned_data channels) ∷ (member.Kind, string (codes "biquad")) ∷ (member.Shift, unsigned_data shift)
     ∷ (member.Uid, unsigned_data uid) ∷ [])
-kind_data uid (Limiter channels threshold lookahead) = record_data ((member.Channels, unsigned_data channels) ∷ (member.Kind, string (codes "limiter"))
+kind_data uid (Limiter channels threshold lookahead) =
+    record_data ((member.Channels, unsigned_data channels) ∷ (member.Kind, string (codes "limiter"))
     ∷ (member.Lookahead, unsigned_data lookahead) ∷ (member.Threshold, unsigned_data threshold) ∷ (member.Uid, unsigned_data uid) ∷ [])
 kind_data uid (Delay channels samples) = record_data ((member.Channels, unsigned_data channels) ∷ (member.Kind, string (codes "delay"))
     ∷ (member.Samples, unsigned_data samples) ∷ (member.Uid, unsigned_data uid) ∷ [])

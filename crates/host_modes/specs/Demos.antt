@@ -26,7 +26,8 @@ demo_bytes q = let g = demo_graph q in bytes_of 16 (answered g (latency_of_graph
 
 -- the history of the frames that come in, where so many of silence come after the samples
 abbrev pub demo_input : DemoRequest → ℕ → History
-demo_input q silent = silence silent (in_channels (demo_graph q)) ++ frames_of (in_channels (demo_graph q)) (samples_drawn q.seed (demo_frames * 2))
+demo_input q silent =
+    silence silent (in_channels (demo_graph q)) ++ frames_of (in_channels (demo_graph q)) (samples_drawn q.seed (demo_frames * 2))
 
 -- a word, a space, a number, and byte 10
 unfoldable pub row : List ℕ → ℕ → List ℕ

@@ -27,7 +27,8 @@ pub record IsEngineOf (q : RenderRequest) (held : Option Holding) (kept : Option
 -- it stands for all frames of the input and of the silence after them
 abbrev pub HasPlayed : RenderRequest → Option Holding → Parts → Type 0
 HasPlayed q None e = ⊤
-HasPlayed q (Some files) e = (head : Head) × (samples : List ℤ) × IsJob q e.graph head samples files × Stands e (all_input q e.graph samples)
+HasPlayed q (Some files) e =
+    (head : Head) × (samples : List ℤ) × IsJob q e.graph head samples files × Stands e (all_input q e.graph samples)
 
 -- it stands for the first of them, and the output holds the head and just those of these that are kept
 abbrev pub HasHalted : RenderRequest → Option Holding → Option Holding → Parts → Type 0

@@ -56,7 +56,8 @@ IsUnanswered kept old new = (kept ≡ None) × (new ≡ old)
 
 -- the whole text of a work was reported, and its plan is handed back
 abbrev pub IsReported : Asked → Option Holding → End → Option Plan → Option (List ℕ) → Option (List ℕ) → Type 0
-IsReported asked held end kept old new = (plan : Plan) × (text : List ℕ) × (kept ≡ Some plan) × IsWork asked held plan text end × GainsAll text old new
+IsReported asked held end kept old new =
+    (plan : Plan) × (text : List ℕ) × (kept ≡ Some plan) × IsWork asked held plan text end × GainsAll text old new
 
 -- What a run hands back and has reported, by its end. With a work that is done, or whose output could not be written,
 -- the whole text has been reported, and so it has where a block could not be read; where the report failed, the first
@@ -65,7 +66,8 @@ abbrev pub IsAnswered : Asked → Option Holding → End → Option Plan → Opt
 IsAnswered asked held Done kept old new = IsReported asked held Done kept old new
 IsAnswered asked held (No rule place) kept old new = IsReported asked held (No rule place) kept old new
 IsAnswered asked held WriteFault kept old new = IsReported asked held Done kept old new
-IsAnswered asked held ReadFault kept old new = IsUnanswered kept old new ⊎ (IsRender asked (λ q. ⊤) × IsReported asked held Done kept old new)
+IsAnswered asked held ReadFault kept old new =
+    IsUnanswered kept old new ⊎ (IsRender asked (λ q. ⊤) × IsReported asked held Done kept old new)
 IsAnswered asked held ReportFault kept old new =
     (plan : Plan) × (text : List ℕ) × (end : End) × (kept ≡ Some plan) × IsWork asked held plan text end × GainsPrefix text old new
 IsAnswered asked held end kept old new = IsUnanswered kept old new

@@ -9,7 +9,8 @@ use Rattle.fixed_kernels.specs.Kernels.{Keeps}
 -- when the first t frames of a block of m channels and n frames have come
 pub record GoesOn (m n : ℕ) (ins : List ℤ) (t : ℕ) (old new : KernelState) (outs : List ℤ) : Type 0 where
   pub stands : (h : History) → Keeps old h → Keeps new (before (planar_frame m n ins) t ++ h)
-  pub last : (h : History) → Keeps old h → (s : ℕ) → s < t → planar_frame m n outs s ≡ rule_of old.kind (before (planar_frame m n ins) (suc s) ++ h)
+  pub last : (h : History) → Keeps old h → (s : ℕ) → s < t
+      → planar_frame m n outs s ≡ rule_of old.kind (before (planar_frame m n ins) (suc s) ++ h)
   pub within : (s : ℕ) → s < t → IsFrameWithin old.bound.outs (planar_frame m n outs s)
   pub kind : new.kind ≡ old.kind
   pub bound : new.bound ≡ old.bound

@@ -10,7 +10,8 @@ use Rattle.min_cost_flow.specs.Search.{IsReady}
 
 -- The arc at index k leaves v, and the potential rises along it by just the least difference.
 abbrev pub IsAdmissibleAt : List Arc → (ℕ → ℤ) → ℕ → ℕ → Type 0
-IsAdmissibleAt arcs potential v k = (a : Arc) × (slice_get arcs k ≡ Some a) × (a.tail ≡ v) × ((potential a.head -ℤ potential a.tail) ≡ a.least)
+IsAdmissibleAt arcs potential v k =
+    (a : Arc) × (slice_get arcs k ≡ Some a) × (a.tail ≡ v) × ((potential a.head -ℤ potential a.tail) ≡ a.least)
 
 -- A path of admissible arcs from u to v, by their indexes.
 abbrev pub IsAdmissiblePath : List Arc → (ℕ → ℤ) → ℕ → List ℕ → ℕ → Type 0

@@ -32,7 +32,8 @@ pub record IsSearchOf (net : Network) (flow : List ℕ) (from : ℕ) (r : Residu
   pub tight : IsTight net.arcs flow (potential_of d.numbers.items)
   pub root : slice_get d.last.items from ≡ Some None
   pub ends : (v k : ℕ) → slice_get d.last.items v ≡ Some (Some k) → Ends net flow r v k
-  pub tree : (v k : ℕ) → slice_get d.last.items v ≡ Some (Some k) → (n : ℕ) × (n < net.points) × ClimbsIn r.edges.items d.last.items from n v
+  pub tree : (v k : ℕ) → slice_get d.last.items v ≡ Some (Some k) → (n : ℕ) × (n < net.points)
+      × ClimbsIn r.edges.items d.last.items from n v
   pub tree_tight : IsTreeTight r.edges.items d.last.items (potential_of d.numbers.items)
 
 -- All is there for a search in the residual network of the flow: its edges, and potentials that satisfy complementary
@@ -51,4 +52,5 @@ pub record IsReady (net : Network) (flow : List ℕ) (w : Walks) : Type 0 where
 -- point v that lies n edges before `to`, has them.
 abbrev pub CanCarry : List ℕ → Residual → Searcher → ℕ → ℕ → Type 0
 CanCarry flow r d to units =
-    (n v k : ℕ) (s : Step) → ClimbsIn r.edges.items d.last.items v n to → slice_get d.last.items v ≡ Some (Some k) → slice_get r.steps.items k ≡ Some s → s.back ≡ true → units ≤ slice_index flow s.arc
+    (n v k : ℕ) (s : Step) → ClimbsIn r.edges.items d.last.items v n to → slice_get d.last.items v ≡ Some (Some k)
+    → slice_get r.steps.items k ≡ Some s → s.back ≡ true → units ≤ slice_index flow s.arc

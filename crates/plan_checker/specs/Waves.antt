@@ -14,5 +14,6 @@ IsNew live before v = Contains live v × (Contains (flat_map names before) v →
 
 -- connection k, where it is live and leads to one of the nodes, comes from a wave before
 abbrev pub IsReady : Graph → List Wave → List Uid → ℕ → Type 0
-IsReady g before nodes k = (c : Connection) → slice_get g.connections k ≡ Some c → is_live g c.dst.0 ≡ true → Contains (map (λ u. u.0) nodes) c.dst.0
+IsReady g before nodes k =
+    (c : Connection) → slice_get g.connections k ≡ Some c → is_live g c.dst.0 ≡ true → Contains (map (λ u. u.0) nodes) c.dst.0
     → Contains (flat_map names before) c.src.0

@@ -31,7 +31,8 @@ pub record AreEnds (plan : Plan) (k : ℕ) (ends : List ℕ) : Type 0 where
   pub at : (i : ℕ) → i ≤ length ends → slice_index_or (0 ∷ ends) i 0 ≡ length (nodes_before plan i)
 
 -- the jobs of a certified plan, in a state that some small input has brought about, and n frames more of it
-pub record CanRunBlock (input : List ℤ) (channels : ℕ) (ends : List ℕ) (n : ℕ) (jobs : List (Job Player)) (pool : List (List ℤ)) : Type 0 where
+pub record CanRunBlock (input : List ℤ) (channels : ℕ) (ends : List ℕ) (n : ℕ) (jobs : List (Job Player))
+    (pool : List (List ℤ)) : Type 0 where
   pub graph : Graph
   pub plan : Plan
   pub sound : IsSound graph
@@ -58,7 +59,8 @@ pub record JobStays (a b : Job Player) : Type 0 where
   pub server : SameServer a.part.server b.part.server
 
 -- whatever the orders of the frame events are, the jobs and the pool are as they leave them; the rest is as it was
-pub record BlockHasRun (input : List ℤ) (channels : ℕ) (ends : List ℕ) (n : ℕ) (jobs : List (Job Player)) (pool : List (List ℤ)) (jobs' : List (Job Player)) (pool' : List (List ℤ)) : Type 0 where
+pub record BlockHasRun (input : List ℤ) (channels : ℕ) (ends : List ℕ) (n : ℕ) (jobs : List (Job Player)) (pool : List (List ℤ))
+    (jobs' : List (Job Player)) (pool' : List (List ℤ)) : Type 0 where
   pub jobs_len : length jobs' ≡ length jobs
   pub pool_len : length pool' ≡ length pool
   pub lengths : (b : ℕ) → length (slice_index_or pool' b []) ≡ length (slice_index_or pool b [])
@@ -68,4 +70,6 @@ pub record BlockHasRun (input : List ℤ) (channels : ℕ) (ends : List ℕ) (n 
       → AreJobsOf g (positions plan) plan (all_nodes plan) jobs → AreAt (all_nodes plan) jobs pool s
       → AreEnds plan (length plan.waves) ends
       → core.AreOrdersOf n (map names plan.waves) orders
-      → AreJobsOf g (positions plan) plan (all_nodes plan) jobs' × AreAt (all_nodes plan) jobs' pool' (core.after (machine g (positions plan) plan.homes (frame_in channels input)) orders s)
+      → AreJobsOf g (positions plan) plan (all_nodes plan) jobs'
+      × AreAt (all_nodes plan) jobs' pool'
+          (core.after (machine g (positions plan) plan.homes (frame_in channels input)) orders s)

@@ -41,7 +41,8 @@ pub record IsPlayerOf (g : Graph) (p : ℕ → ℕ) (plan_homes : List PlanHome)
   pub buffers : map (λ w. w.buffer) a.wires.items ≡ sources g plan_homes v
   pub channels : channels_of a.wires.items ≡ channels_into g v
   pub delays : delays_of a ≡ delays_into g p v
-  pub own : (i : ℕ) (d : Wire) → i < length a.wires.items → IsOwnRight homes (slice_index_or a.wires.items i d).buffer (slice_index_or a.wires.items i d).own
+  pub own : (i : ℕ) (d : Wire) → i < length a.wires.items
+      → IsOwnRight homes (slice_index_or a.wires.items i d).buffer (slice_index_or a.wires.items i d).own
   pub homes_are : map core_home homes ≡ homes_at plan_homes v
   pub ins : a.ins ≡ ins_at g v
   pub outs : a.outs ≡ outs_at g v

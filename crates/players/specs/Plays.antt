@@ -57,19 +57,24 @@ pub record IsWhole (a : Player) : Type 0 where
   pub server : FitsServer a.server a.ins a.outs
 
 -- what n frames leave of it and of its buffers
-pub record HasPlayed (block : ℕ → Frame) (pool : List (List ℤ)) (homes : List Home) (first n : ℕ) (outs : List (List ℤ)) (a : Player) (outs' : List (List ℤ)) (b : Player) : Type 0 where
+pub record HasPlayed (block : ℕ → Frame) (pool : List (List ℤ)) (homes : List Home) (first n : ℕ) (outs : List (List ℤ))
+    (a : Player) (outs' : List (List ℤ)) (b : Player) : Type 0 where
   pub same : IsOfSame a b
   pub holds : (s : Kept) → Holds a s → Holds b (run_from a block (samples pool outs a.wires.items) first n s)
   pub written : (s : Kept) (o t : ℕ) (d : Home) → Holds a s → o < length homes → t < n
       → slice_index_or (slice_index_or outs' o []) (first + t) (pos 0)
-      ≡ get_or (given_by a.server (run_from a block (samples pool outs a.wires.items) first (suc t) s).came) (slice_index_or homes o d).channel (pos 0)
-  pub rest : (o j : ℕ) → (j < first) ⊎ (first + n ≤ j) → slice_index_or (slice_index_or outs' o []) j (pos 0) ≡ slice_index_or (slice_index_or outs o []) j (pos 0)
+      ≡ get_or (given_by a.server (run_from a block (samples pool outs a.wires.items) first (suc t) s).came)
+          (slice_index_or homes o d).channel (pos 0)
+  pub rest : (o j : ℕ) → (j < first) ⊎ (first + n ≤ j)
+      → slice_index_or (slice_index_or outs' o []) j (pos 0) ≡ slice_index_or (slice_index_or outs o []) j (pos 0)
   pub lengths : (o : ℕ) → length (slice_index_or outs' o []) ≡ length (slice_index_or outs o [])
 
 -- ---- a sub-block
 -- the frames of sums
 abbrev pub gathered : Player → List (List ℤ) → List (List ℤ) → ℕ → ℕ → ℕ → Frame
-gathered a pool outs first count t = map (λ d. sum_on d (channels_of a.wires.items) (taps_at a.wires.items pool outs first count a.lines.items t)) (range_with_len 0 a.ins)
+gathered a pool outs first count t =
+    map (λ d. sum_on d (channels_of a.wires.items) (taps_at a.wires.items pool outs first count a.lines.items t))
+      (range_with_len 0 a.ins)
 
 -- it may take them
 pub record CanTake (input : List ℤ) (channels : ℕ) (pool outs : List (List ℤ)) (first count : ℕ) (a : Player) : Type 0 where
@@ -88,12 +93,15 @@ pub record HasTaken (block : ℕ → Frame) (pool outs : List (List ℤ)) (first
   pub ins : b.ins ≡ a.ins
   pub outs_stay : b.outs ≡ a.outs
   pub server : SameServer a.server b.server
-  pub holds : (h : History) → ServerHolds a.server h → ServerHolds b.server (brought a.server block first (gathered a pool outs first count) count ++ h)
+  pub holds : (h : History) → ServerHolds a.server h
+      → ServerHolds b.server (brought a.server block first (gathered a pool outs first count) count ++ h)
   pub told : (h : History) (c t : ℕ) → ServerHolds a.server h → c < a.outs → t < count
-      → get_or b.told.items (c * count + t) (pos 0) ≡ get_or (given_by a.server (brought a.server block first (gathered a pool outs first count) (suc t) ++ h)) c (pos 0)
+      → get_or b.told.items (c * count + t) (pos 0)
+      ≡ get_or (given_by a.server (brought a.server block first (gathered a pool outs first count) (suc t) ++ h)) c (pos 0)
 
 -- it may take them and write what it gives into the buffers of these homes
-pub record CanTurn (input : List ℤ) (channels : ℕ) (pool : List (List ℤ)) (homes : List Home) (outs : List (List ℤ)) (first count : ℕ) (a : Player) : Type 0 where
+pub record CanTurn (input : List ℤ) (channels : ℕ) (pool : List (List ℤ)) (homes : List Home) (outs : List (List ℤ))
+    (first count : ℕ) (a : Player) : Type 0 where
   pub take : CanTake input channels pool outs first count a
   pub homes_len : length homes ≡ length outs
   pub values : (o : ℕ) (d : Home) → o < length homes → (slice_index_or homes o d).channel < a.outs
@@ -101,7 +109,8 @@ pub record CanTurn (input : List ℤ) (channels : ℕ) (pool : List (List ℤ)) 
 
 -- ---- a block
 -- a block, in sub-blocks: what it sums is not too large, whatever it holds
-pub record CanPlay (input : List ℤ) (channels : ℕ) (pool : List (List ℤ)) (homes : List Home) (outs : List (List ℤ)) (n : ℕ) (a : Player) : Type 0 where
+pub record CanPlay (input : List ℤ) (channels : ℕ) (pool : List (List ℤ)) (homes : List Home) (outs : List (List ℤ)) (n : ℕ)
+    (a : Player) : Type 0 where
   pub whole : IsWhole a
   pub size : n < 2 ^ 63
   pub sources : (i : ℕ) (d : Wire) → i < length a.wires.items → CanRead pool outs n (slice_index_or a.wires.items i d)
@@ -110,11 +119,14 @@ pub record CanPlay (input : List ℤ) (channels : ℕ) (pool : List (List ℤ)) 
   pub room : (o : ℕ) → o < length outs → n ≤ length (slice_index_or outs o [])
   pub state : Kept
   pub holds : Holds a state
-  pub fit : (t : ℕ) → t < n → SumsFit (channels_of a.wires.items) (taps (delays_of a) (run_from a (frame_in channels input) (samples pool outs a.wires.items) 0 (suc t) state).passed)
-  pub within : (t : ℕ) → t < n → IsWithinServer a.server (summed a.ins (channels_of a.wires.items) (delays_of a) (run_from a (frame_in channels input) (samples pool outs a.wires.items) 0 (suc t) state).passed)
+  pub fit : (t : ℕ) → t < n → SumsFit (channels_of a.wires.items)
+      (taps (delays_of a) (run_from a (frame_in channels input) (samples pool outs a.wires.items) 0 (suc t) state).passed)
+  pub within : (t : ℕ) → t < n → IsWithinServer a.server (summed a.ins (channels_of a.wires.items)
+      (delays_of a) (run_from a (frame_in channels input) (samples pool outs a.wires.items) 0 (suc t) state).passed)
   pub entry : n * channels ≤ length input
 
 -- what it leaves of it
-pub record PlayerDone (block : ℕ → Frame) (n : ℕ) (pool : List (List ℤ)) (homes : List Home) (outs : List (List ℤ)) (a : Player) (outs' : List (List ℤ)) (b : Player) : Type 0 where
+pub record PlayerDone (block : ℕ → Frame) (n : ℕ) (pool : List (List ℤ)) (homes : List Home) (outs : List (List ℤ)) (a : Player)
+    (outs' : List (List ℤ)) (b : Player) : Type 0 where
   pub whole : IsWhole b
   pub played : HasPlayed block pool homes 0 n outs a outs' b

@@ -33,7 +33,8 @@ lengths_of lists = map (λ l. length l) lists
 
 -- what comes out of the lines in frame t of a sub-block of n frames, and what they hold after it
 abbrev pub taps_at : List Wire → List (List ℤ) → List (List ℤ) → ℕ → ℕ → List (List ℤ) → ℕ → List ℤ
-taps_at wires pool outs first n lines t = map (λ x. slice_index_or (passed x.1 (part first n (source pool outs x.0))) t (pos 0)) (zip wires lines)
+taps_at wires pool outs first n lines t =
+    map (λ x. slice_index_or (passed x.1 (part first n (source pool outs x.0))) t (pos 0)) (zip wires lines)
 
 abbrev pub lines_after : List Wire → List (List ℤ) → List (List ℤ) → ℕ → ℕ → List (List ℤ) → List (List ℤ)
 lines_after wires pool outs first n lines = map (λ x. kept x.1 (part first n (source pool outs x.0))) (zip wires lines)
@@ -66,7 +67,8 @@ abbrev pub SumsFit : List ℕ → List ℤ → Type 0
 SumsFit channels samples = (d m : ℕ) → FitsSigned w64 (sum_on d (take m channels) (take m samples))
 
 -- the samples of a sub-block are all that comes in: they come by one wire, without delay, to the only channel
-pub record IsAlone (ws : List Wire) (ls : List (List ℤ)) (wide : ℕ) (pool outs : List (List ℤ)) (first n : ℕ) (alone : List ℤ) : Type 0 where
+pub record IsAlone (ws : List Wire) (ls : List (List ℤ)) (wide : ℕ) (pool outs : List (List ℤ)) (first n : ℕ)
+    (alone : List ℤ) : Type 0 where
   pub one : length ws ≡ 1
   pub ins : wide ≡ 1
   pub at_once : slice_index_or ls 0 [] ≡ []

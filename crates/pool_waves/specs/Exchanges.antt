@@ -35,7 +35,8 @@ HaveLists jobs = (i : ℕ) (d : Job _) → i < length jobs → length (outs_of j
 
 -- all their buffers are below n
 abbrev pub AreWithin : {P : Type 0} → ℕ → List (Job P) → Type 0
-AreWithin n jobs = (i o : ℕ) (d : Job _) (e : Home) → i < length jobs → o < length (homes_of jobs i d) → buffer_at (homes_of jobs i d) o e < n
+AreWithin n jobs =
+    (i o : ℕ) (d : Job _) (e : Home) → i < length jobs → o < length (homes_of jobs i d) → buffer_at (homes_of jobs i d) o e < n
 
 -- the lists of one job's values and those of their buffers have changed places
 pub record Swapped (homes : List Home) (outs pool outs' pool' : List (List ℤ)) : Type 0 where

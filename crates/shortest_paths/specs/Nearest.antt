@@ -32,14 +32,17 @@ compare_waiters x y = ordering_then (int_cmp y.0.0 x.0.0) (ordering_then (int_cm
 
 -- One that waits is a point, by the cost of a walk and the reduced cost.
 abbrev pub IsWaiter : ℕ → List ℤ → Waiter → Type 0
-IsWaiter points numbers w = (w.0.2 < points) × (w.0.0 ≡ w.0.1 -ℤ number_of numbers w.0.2) × IsWithin (2 ^ 62) w.0.0 × IsWithin (2 ^ 62) w.0.1
+IsWaiter points numbers w =
+    (w.0.2 < points) × (w.0.0 ≡ w.0.1 -ℤ number_of numbers w.0.2) × IsWithin (2 ^ 62) w.0.0 × IsWithin (2 ^ 62) w.0.1
 
 abbrev pub AreWaiters : ℕ → List ℤ → List Waiter → Type 0
 AreWaiters points numbers waiting = All (IsWaiter points numbers) waiting
 
 -- The edge is settled, or its tail waits.
 abbrev pub Waits : List (Option Best) → List ℤ → List Waiter → Edge → Type 0
-Waits best numbers waiting e = (b : Best) → found best e.tail ≡ Some b → AtMost best e.head (b.cost +ℤ e.cost) ⊎ Contains waiting (waiter numbers b.cost e.tail)
+Waits best numbers waiting e =
+    (b : Best) → found best e.tail ≡ Some b → AtMost best e.head (b.cost +ℤ e.cost)
+    ⊎ Contains waiting (waiter numbers b.cost e.tail)
 
 -- So it is with each edge that does not leave the point.
 abbrev pub AllWaitBut : ℕ → List (Option Best) → List ℤ → List Waiter → List Edge → Type 0
@@ -50,7 +53,8 @@ abbrev pub AllWait : List (Option Best) → List ℤ → List Waiter → List Ed
 AllWait best numbers waiting edges = (e : Edge) → Contains edges e → Waits best numbers waiting e
 
 -- What going over some edges keeps.
-pub record IsRelaxed (edges : List Edge) (numbers : List ℤ) (old new : List (Option Best)) (heap heap' : List Waiter) (len len' : ℕ) : Type 0 where
+pub record IsRelaxed (edges : List Edge) (numbers : List ℤ) (old new : List (Option Best)) (heap heap' : List Waiter)
+    (len len' : ℕ) : Type 0 where
   pub kept : (from : ℕ) → IsSearched edges from old → IsSearched edges from new
   pub falls : 2 * room new + len' ≤ 2 * room old + len
   pub waits : (e : Edge) → Waits old numbers heap e → Waits new numbers heap' e
@@ -59,7 +63,9 @@ pub record IsRelaxed (edges : List Edge) (numbers : List ℤ) (old new : List (O
 
 -- Each edge whose tail is nearer than the limit is settled.
 abbrev pub AreSettledBelow : List (Option Best) → List ℤ → ℤ → List Edge → Type 0
-AreSettledBelow best numbers limit edges = (e : Edge) → Contains edges e → (b : Best) → found best e.tail ≡ Some b → AtMost best e.head (b.cost +ℤ e.cost) ⊎ (limit ≤ℤ (b.cost -ℤ number_of numbers e.tail))
+AreSettledBelow best numbers limit edges =
+    (e : Edge) → Contains edges e → (b : Best) → found best e.tail ≡ Some b → AtMost best e.head (b.cost +ℤ e.cost)
+    ⊎ (limit ≤ℤ (b.cost -ℤ number_of numbers e.tail))
 
 -- The cost and the last edge of a walk that costs no more than `most`, or `most` and none.
 abbrev pub IsCutAt : Option Best → ℤ → ℤ → Option ℕ → Type 0
@@ -69,7 +75,8 @@ IsCutAt walk most cost last =
 
 -- So it is at each point, where `most` is its old number and the limit.
 abbrev pub IsCut : List (Option Best) → ℤ → List ℤ → List ℤ → List (Option ℕ) → Type 0
-IsCut best limit old new last = (v : ℕ) → v < length best → IsCutAt (found best v) (number_of old v +ℤ limit) (number_of new v) (slice_index_or last v None)
+IsCut best limit old new last =
+    (v : ℕ) → v < length best → IsCutAt (found best v) (number_of old v +ℤ limit) (number_of new v) (slice_index_or last v None)
 
 -- There is room for each point.
 pub record AreSized (s : Searcher) : Type 0 where

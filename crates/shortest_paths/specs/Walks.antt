@@ -57,4 +57,5 @@ pub record EndsLeast (edges : List Edge) (least : List ℤ) (v k : ℕ) : Type 0
 -- Going from v to the tail of the edge that `last` names there, n times, ends at `from`.
 abbrev pub ClimbsIn : List Edge → List (Option ℕ) → ℕ → ℕ → ℕ → Type 0
 ClimbsIn edges last from zero v = v ≡ from
-ClimbsIn edges last from (suc n) v = (k : ℕ) × (e : Edge) × (slice_get last v ≡ Some (Some k)) × (slice_get edges k ≡ Some e) × ClimbsIn edges last from n e.tail
+ClimbsIn edges last from (suc n) v =
+    (k : ℕ) × (e : Edge) × (slice_get last v ≡ Some (Some k)) × (slice_get edges k ≡ Some e) × ClimbsIn edges last from n e.tail

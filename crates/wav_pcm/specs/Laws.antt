@@ -14,7 +14,8 @@ IsScaledFrom bits x = (s : ℤ) × (least bits ≤ℤ s) × (s ≤ℤ greatest b
 abbrev pub ReadingIsOne : Type 0
 ReadingIsOne =
     (graph : ℕ) (bytes : List ℕ)
-    → (answer : Result Head WavFault) × ReadsAs graph bytes answer × ((other : Result Head WavFault) → ReadsAs graph bytes other → other ≡ answer)
+    → (answer : Result Head WavFault) × ReadsAs graph bytes answer
+    × ((other : Result Head WavFault) → ReadsAs graph bytes other → other ≡ answer)
 
 -- what a head that is read says is in range, it has the graph's channels, and all its frames stand in the file
 abbrev pub FramesAreThere : Type 0
