@@ -11,7 +11,11 @@ use Rattle.alignment.specs.declared.links.Link.{Link}
 -- connection k
 abbrev pub link_of : Graph → List ℕ → ℕ → Connection → Link
 link_of g points k c = record {
-    index = k; tail = number_in points c.src.0; head = number_in points c.dst.0; latency = latency_at g c.src.0 }
+  index = k;
+  tail = number_in points c.src.0;
+  head = number_in points c.dst.0;
+  latency = latency_at g c.src.0;
+}
 
 -- the live connections from index k on; and all of them
 abbrev pub links_from : Graph → List ℕ → ℕ → List Connection → List Link

@@ -19,8 +19,11 @@ mirror_number g points x = length points + place_of_value g x
 -- from the node of a value to its mirror
 abbrev pub mirror_link : Graph → List ℕ → Port → Link
 mirror_link g points x = record {
-    index = place_of_value g x; tail = number_in points x.uid.0; head = mirror_number g points x;
-    latency = latency_at g x.uid.0 }
+  index = place_of_value g x;
+  tail = number_in points x.uid.0;
+  head = mirror_number g points x;
+  latency = latency_at g x.uid.0;
+}
 
 -- from the destination of a live connection to the mirror of the value that it reads
 abbrev pub arc_to_mirror : Graph → List ℕ → Link → Arc

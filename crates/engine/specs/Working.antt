@@ -67,7 +67,7 @@ pub record IsRendered (s : Shape) (frames : ℕ) (jobs : List (Job Player)) (poo
   pub any : (graph : Graph) (plan : Plan) (block : ℕ) → IsWorking graph plan block frames s jobs pool → length input / s.ins ≤ block
       → (h : History) → Stands (parts_of graph plan block frames jobs pool) h
       → AnyOrder (parts_of graph plan block frames jobs pool)
-          (parts_of graph plan block (frames + length input / s.ins) jobs' pool') input output' h
+      (parts_of graph plan block (frames + length input / s.ins) jobs' pool') input output' h
   pub both : (graph : Graph) (plan : Plan) (block : ℕ) → IsWorking graph plan block frames s jobs pool → length input / s.ins ≤ block
       → (h : History) → Stands (parts_of graph plan block frames jobs pool) h
       → Stands (parts_of graph plan block (frames + length input / s.ins) jobs' pool') (frames_of s.ins input ++ h)

@@ -25,7 +25,7 @@ OrdersNeverShow =
     IsSound g → IsCertified g plan →
     core.AreOrdersOf n (map names plan.waves) first → core.AreOrdersOf n (map names plan.waves) second →
     core.IsSame (core.after (machine g (positions plan) plan.homes block) first s)
-      (core.after (machine g (positions plan) plan.homes block) second s)
+    (core.after (machine g (positions plan) plan.homes block) second s)
 
 -- a block of n frames, in any orders, takes every live node n frames further
 abbrev pub BlocksRun : Type 0

@@ -19,7 +19,7 @@ abbrev pub SumsAreBounded : Type 0
 SumsAreBounded =
     (g : Graph) (p : ℕ → ℕ) (x : ℕ → Frame) (v d m t : ℕ) → IsInputFor g (before x (t + 1)) → d < ins_at g v →
     unsigned_abs (sum_on d (take m (channels_into g v))
-      (take m (map (λ c. tap g p (out_at g p x) c t) (connections_into g v)))) ≤ get_or (bounds g v).ins d 0
+    (take m (map (λ c. tap g p (out_at g p x) c t) (connections_into g v)))) ≤ get_or (bounds g v).ins d 0
 
 -- no line of a certified plan is longer
 abbrev pub DelaysAreBounded : Type 0

@@ -34,7 +34,7 @@ left_out q g = if q.compensate then latency_of_graph g else 0
 abbrev pub output_of : RenderRequest → Graph → Head → List ℤ → List ℕ
 output_of q g head samples =
     wave_file_of (out_channels g) head.rate (sample_size q head)
-      (drop (left_out q g * out_channels g) (answered g (silent_frames q g) samples))
+    (drop (left_out q g * out_channels g) (answered g (silent_frames q g) samples))
 
 -- the history of all frames that come in
 abbrev pub all_input : RenderRequest → Graph → List ℤ → History

@@ -15,7 +15,12 @@ use Rattle.lifetimes.specs.declared.reads.Read.{Read}
 -- what a live connection reads: an output channel, born in the wave of its node, read by a node in its wave
 abbrev pub read_by : List Wave → Connection → Read
 read_by waves c = record {
-    uid = c.src; channel = c.src_channel; born = wave_of waves c.src.0; reader = c.dst; wave = wave_of waves c.dst.0 }
+  uid = c.src;
+  channel = c.src_channel;
+  born = wave_of waves c.src.0;
+  reader = c.dst;
+  wave = wave_of waves c.dst.0;
+}
 
 abbrev pub reads_in : Graph → List Wave → List Read
 reads_in g waves = map (read_by waves) (live_connections g)

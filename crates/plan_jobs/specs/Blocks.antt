@@ -72,4 +72,4 @@ pub record BlockHasRun (input : List ℤ) (channels : ℕ) (ends : List ℕ) (n 
       → core.AreOrdersOf n (map names plan.waves) orders
       → AreJobsOf g (positions plan) plan (all_nodes plan) jobs'
       × AreAt (all_nodes plan) jobs' pool'
-          (core.after (machine g (positions plan) plan.homes (frame_in channels input)) orders s)
+      (core.after (machine g (positions plan) plan.homes (frame_in channels input)) orders s)

@@ -14,7 +14,7 @@ pub record AreJobsOf (g : Graph) (p : ℕ → ℕ) (plan : Plan) (vs : List ℕ)
   pub len : length jobs ≡ length vs
   pub each : (i : ℕ) (d : Job Player) → i < length jobs
       → IsPlayerOf g p plan.homes (slice_index_or vs i 0) (slice_index_or jobs i d).desk.homes.items
-          (slice_index_or jobs i d).part
+      (slice_index_or jobs i d).part
 
 -- the jobs and the pool are as in this state
 pub record AreAt (vs : List ℕ) (jobs : List (Job Player)) (pool : List (List ℤ)) (s : core.State Kept) : Type 0 where

@@ -64,7 +64,7 @@ pub record HasPlayed (block : ℕ → Frame) (pool : List (List ℤ)) (homes : L
   pub written : (s : Kept) (o t : ℕ) (d : Home) → Holds a s → o < length homes → t < n
       → slice_index_or (slice_index_or outs' o []) (first + t) (pos 0)
       ≡ get_or (given_by a.server (run_from a block (samples pool outs a.wires.items) first (suc t) s).came)
-          (slice_index_or homes o d).channel (pos 0)
+      (slice_index_or homes o d).channel (pos 0)
   pub rest : (o j : ℕ) → (j < first) ⊎ (first + n ≤ j)
       → slice_index_or (slice_index_or outs' o []) j (pos 0) ≡ slice_index_or (slice_index_or outs o []) j (pos 0)
   pub lengths : (o : ℕ) → length (slice_index_or outs' o []) ≡ length (slice_index_or outs o [])
@@ -74,7 +74,7 @@ pub record HasPlayed (block : ℕ → Frame) (pool : List (List ℤ)) (homes : L
 abbrev pub gathered : Player → List (List ℤ) → List (List ℤ) → ℕ → ℕ → ℕ → Frame
 gathered a pool outs first count t =
     map (λ d. sum_on d (channels_of a.wires.items) (taps_at a.wires.items pool outs first count a.lines.items t))
-      (range_with_len 0 a.ins)
+    (range_with_len 0 a.ins)
 
 -- it may take them
 pub record CanTake (input : List ℤ) (channels : ℕ) (pool outs : List (List ℤ)) (first count : ℕ) (a : Player) : Type 0 where

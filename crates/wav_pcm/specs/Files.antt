@@ -34,15 +34,20 @@ head_in bytes format None = Err fault.NoData
 head_in bytes format (Some chunk) =
     and_then
     (λ frames. Ok (record {
-      channels = format.channels; rate = format.rate; bits = format.bits; frames = frames; from = chunk.from }))
+      channels = format.channels;
+      rate = format.rate;
+      bits = format.bits;
+      frames = frames;
+      from = chunk.from;
+    }))
     (frames_in (format.channels * (format.bits / 8)) chunk.size (bytes - chunk.from))
 
 -- the head by the chunks of format and of data
 abbrev pub head_by : ℕ → List ℕ → Option Chunk → Option Chunk → Result Head WavFault
 head_by graph bytes first chunk =
     and_then
-      (λ whole. and_then (λ format. head_in (length bytes) format chunk) (checked_format graph (format_in bytes whole)))
-      (whole_format (length bytes) first)
+    (λ whole. and_then (λ format. head_in (length bytes) format chunk) (checked_format graph (format_in bytes whole)))
+    (whole_format (length bytes) first)
 
 -- how a file with these chunks is read for a graph whose input has so many channels
 abbrev pub reading : ℕ → List ℕ → List Chunk → Result Head WavFault
