@@ -3,12 +3,13 @@
 ghost use Rattle.std.specs.Prelude.{IfOk};
 ghost use Rattle.graph_model.specs.Sound.{Fits};
 
+use buffer_plan::are_lives;
 use connections::check;
 use graph_gen::graph_of as generated;
 use graph_model::{Graph, List, Uid};
 use lifetimes::{lives, needs};
 use plan_compiler::compile;
-use plan_model::{Home, Mode, Plan};
+use plan_model::{Home, Life, Mode, Plan};
 use schedule::schedule;
 use std::alloc::{AllocError, Global};
 use std::test::Fail;
@@ -30,6 +31,14 @@ fn figures(alloc: Global, graph: Graph, mode: Mode) -> Result<(u64, u64, u32, u6
     Ok((plan.latency, plan.total, plan.channels, plan.peak))
 }
 
+/// What each of these waves needs, where these are lives in them.
+fn needs_in(alloc: Global, lives: &List<Life>, waves: usize) -> Result<List<u32>, AllocError> {
+    if waves > 512 || lives.len() > 16384 || !are_lives(lives, waves as u32) {
+        return Ok(List::new(alloc));
+    }
+    needs(alloc, lives, waves as u32)
+}
+
 /// What each wave of a graph's schedule needs.
 fn needs_of(alloc: Global, graph: Graph, mode: Mode) -> Result<List<u32>, Fail>
     requires { Fits graph }
@@ -37,10 +46,7 @@ fn needs_of(alloc: Global, graph: Graph, mode: Mode) -> Result<List<u32>, Fail>
     let checked = check(alloc, graph)?;
     let waves = schedule(alloc, &checked, mode)?;
     let lives = lives(alloc, &checked, &waves)?;
-    if waves.len() > 512 {
-        return Ok(List::new(alloc));
-    }
-    Ok(needs(alloc, &lives, waves.len() as u32)?)
+    Ok(needs_in(alloc, &lives, waves.len())?)
 }
 
 /// Three gains into a mixer.
