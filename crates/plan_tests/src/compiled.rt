@@ -4,7 +4,7 @@ ghost use Rattle.std.specs.Prelude.{IfOk};
 ghost use Rattle.graph_model.specs.Sound.{Fits};
 
 use buffer_plan::are_lives;
-use connections::check;
+use connections::{Checked, check};
 use graph_gen::graph_of as generated;
 use graph_model::{Graph, List, Uid};
 use lifetimes::{lives, needs};
@@ -23,12 +23,17 @@ fn plan(alloc: Global, graph: Graph, mode: Mode) -> Result<Plan, Fail>
     Ok(compile(alloc, &checked, mode)?)
 }
 
-/// Latency, total, channels and peak of a graph's plan.
+/// Latency, total, channels and peak of a plan.
+fn figures_in(plan: &Plan) -> (u64, u64, u32, u64) {
+    (plan.latency, plan.total, plan.channels, plan.peak)
+}
+
+/// The same of a graph's plan.
 fn figures(alloc: Global, graph: Graph, mode: Mode) -> Result<(u64, u64, u32, u64), Fail>
     requires { Fits graph }
 {
     let plan = plan(alloc, graph, mode)?;
-    Ok((plan.latency, plan.total, plan.channels, plan.peak))
+    Ok(figures_in(&plan))
 }
 
 /// What each of these waves needs, where these are lives in them.
@@ -39,14 +44,18 @@ fn needs_in(alloc: Global, lives: &List<Life>, waves: usize) -> Result<List<u32>
     needs(alloc, lives, waves as u32)
 }
 
+/// What each wave of a schedule needs.
+fn needs_by(alloc: Global, checked: &Checked, mode: Mode) -> Result<List<u32>, AllocError> {
+    let waves = schedule(alloc, checked, mode)?;
+    needs_in(alloc, &lives(alloc, checked, &waves)?, waves.len())
+}
+
 /// What each wave of a graph's schedule needs.
 fn needs_of(alloc: Global, graph: Graph, mode: Mode) -> Result<List<u32>, Fail>
     requires { Fits graph }
 {
     let checked = check(alloc, graph)?;
-    let waves = schedule(alloc, &checked, mode)?;
-    let lives = lives(alloc, &checked, &waves)?;
-    Ok(needs_in(alloc, &lives, waves.len())?)
+    Ok(needs_by(alloc, &checked, mode)?)
 }
 
 /// Three gains into a mixer.

@@ -3,8 +3,8 @@
 ghost use Rattle.std.specs.Prelude.{IfOk};
 ghost use Rattle.graph_model.specs.Sound.{Fits};
 
-use connections::check;
-use graph_model::{Graph, Uid};
+use connections::{Checked, check};
+use graph_model::{Graph, List, Uid};
 use lifetimes::lives;
 use plan_model::Life;
 use schedule::by_waves;
@@ -46,12 +46,24 @@ fn read_twice(alloc: Global) -> Result<Graph, AllocError>
     graph_of(alloc, nodes, &ways)
 }
 
+/// The lives of the values of a graph by waves.
+fn lives_in(alloc: Global, graph: &Checked) -> Result<List<Life>, AllocError> {
+    lives(alloc, graph, &by_waves(alloc, graph)?)
+}
+
+/// The same of a graph that has to be sound.
+fn lives_of(alloc: Global, graph: Graph) -> Result<List<Life>, Fail>
+    requires { Fits graph }
+{
+    let checked = check(alloc, graph)?;
+    Ok(lives_in(alloc, &checked)?)
+}
+
 /// A node that reads a value twice in its last wave is its one reader there; of two nodes none is.
 #[test]
 fn the_sole_reader_is_one_node(rt: HostRuntime) -> Result<(), Fail> {
     let alloc = rt.alloc();
-    let checked = check(alloc, read_twice(alloc)?)?;
-    let lives = lives(alloc, &checked, &by_waves(alloc, &checked)?)?;
+    let lives = lives_of(alloc, read_twice(alloc)?)?;
     let wanted = [
         life(1, 0, 0, Some(4)),
         life(1, 1, 0, None),
