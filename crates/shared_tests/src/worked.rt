@@ -1,7 +1,7 @@
 //! Worked graphs, whose numbers come from outside.
 
 use crate::graphs::{gains_beside_an_insert, mixer_before_a_gain, straight_twice, usual_job};
-use crate::plans::{figures, frames, lives_and_needs, plan, shared_plan};
+use crate::plans::{figures, frames, lives, needs_in, plan, shared_plan};
 use graph_model::Uid;
 use plan_model::Mode;
 use std::test::Fail;
@@ -11,13 +11,13 @@ use test_graphs::{fan_out, gain, graph_of, in_a_row, input, output};
 #[test]
 fn three_gains_wait_behind_one_line(rt: HostRuntime) -> Result<(), Fail> {
     let alloc = rt.alloc();
-    let ones = shared_plan(alloc, gains_beside_an_insert(alloc)?, Mode::OneByOne)?;
-    assert_eq!(rt; figures(&ones), (5, 5, 5, 4));
-    let frames = frames(alloc, &ones)?;
+    let ones = figures(alloc, gains_beside_an_insert(alloc)?, Mode::OneByOne)?;
+    assert_eq!(rt; ones, (5, 5, 5, 4));
+    let frames = frames(alloc, gains_beside_an_insert(alloc)?)?;
     let wanted = [0, 5, 5, 5, 5, 0, 5, 0, 0, 0, 0];
     assert_eq!(rt; frames.as_slice(), wanted.as_slice());
-    let waves = shared_plan(alloc, gains_beside_an_insert(alloc)?, Mode::Waves)?;
-    assert_eq!(rt; figures(&waves), (5, 5, 5, 1));
+    let waves = figures(alloc, gains_beside_an_insert(alloc)?, Mode::Waves)?;
+    assert_eq!(rt; waves, (5, 5, 5, 1));
     let apart = plan(alloc, gains_beside_an_insert(alloc)?, Mode::OneByOne)?;
     assert_eq!(rt; (apart.latency, apart.total, apart.channels), (5, 15, 4));
     Ok(())
@@ -27,7 +27,8 @@ fn three_gains_wait_behind_one_line(rt: HostRuntime) -> Result<(), Fail> {
 #[test]
 fn a_value_that_waits_has_no_reader(rt: HostRuntime) -> Result<(), Fail> {
     let alloc = rt.alloc();
-    let (lives, needs) = lives_and_needs(alloc, gains_beside_an_insert(alloc)?)?;
+    let lives = lives(alloc, gains_beside_an_insert(alloc)?)?;
+    let needs = needs_in(alloc, &lives, 6)?;
     assert_eq!(rt; needs.as_slice(), [1, 2, 3, 4, 5, 4].as_slice());
     let lives = lives.as_slice();
     assert_eq!(rt; lives.len(), 5);
@@ -40,13 +41,13 @@ fn a_value_that_waits_has_no_reader(rt: HostRuntime) -> Result<(), Fail> {
 #[test]
 fn a_gain_whose_readers_share_a_line_stays_at_0(rt: HostRuntime) -> Result<(), Fail> {
     let alloc = rt.alloc();
-    let alone = shared_plan(alloc, fan_out(alloc)?, Mode::OneByOne)?;
-    assert_eq!(rt; figures(&alone), (5, 5, 2, 1));
-    let stands = frames(alloc, &alone)?;
+    let alone = figures(alloc, fan_out(alloc)?, Mode::OneByOne)?;
+    assert_eq!(rt; alone, (5, 5, 2, 1));
+    let stands = frames(alloc, fan_out(alloc)?)?;
     assert_eq!(rt; stands.as_slice(), [0, 5, 0, 0, 0, 0, 5].as_slice());
-    let behind = shared_plan(alloc, mixer_before_a_gain(alloc)?, Mode::OneByOne)?;
-    assert_eq!(rt; figures(&behind), (5, 5, 2, 0));
-    let stands = frames(alloc, &behind)?;
+    let behind = figures(alloc, mixer_before_a_gain(alloc)?, Mode::OneByOne)?;
+    assert_eq!(rt; behind, (5, 5, 2, 0));
+    let stands = frames(alloc, mixer_before_a_gain(alloc)?)?;
     assert_eq!(rt;
         stands.as_slice(),
         [0, 5, 0, 0, 0, 0, 0, 0, 5, 0].as_slice()
@@ -58,32 +59,37 @@ fn a_gain_whose_readers_share_a_line_stays_at_0(rt: HostRuntime) -> Result<(), F
 #[test]
 fn a_usual_job_is_the_same_either_way(rt: HostRuntime) -> Result<(), Fail> {
     let alloc = rt.alloc();
+    let figures = figures(alloc, usual_job(alloc)?, Mode::OneByOne)?;
+    assert_eq!(rt; figures, (1263, 2046, 4, 1));
     let shared = shared_plan(alloc, usual_job(alloc)?, Mode::OneByOne)?;
     let apart = plan(alloc, usual_job(alloc)?, Mode::OneByOne)?;
-    assert_eq!(rt; figures(&shared), (1263, 2046, 4, 1));
     let same = (apart.latency, apart.total, apart.channels, apart.peak);
     assert_eq!(rt; same, (1263, 2046, 4, 1));
     assert_eq!(rt; shared.at, apart.at);
     Ok(())
 }
 
-/// Two connections that wait alike share a line of 5; a row of gains works in place; nothing comes of no connection.
+/// Two connections that wait alike share a line of 5; a row of gains works in place.
 #[test]
-fn one_line_in_place_or_none(rt: HostRuntime) -> Result<(), Fail> {
+fn one_line_or_in_place(rt: HostRuntime) -> Result<(), Fail> {
     let alloc = rt.alloc();
-    let twice = shared_plan(alloc, straight_twice(alloc)?, Mode::OneByOne)?;
-    assert_eq!(rt; figures(&twice), (5, 5, 2, 1));
-    let stands = frames(alloc, &twice)?;
+    let twice = figures(alloc, straight_twice(alloc)?, Mode::OneByOne)?;
+    assert_eq!(rt; twice, (5, 5, 2, 1));
+    let stands = frames(alloc, straight_twice(alloc)?)?;
     assert_eq!(rt; stands.as_slice(), [0, 5, 0, 5, 0].as_slice());
-    let row = shared_plan(
-        alloc,
-        in_a_row(alloc, 3, &gain(9, 655).kind)?,
-        Mode::OneByOne,
-    )?;
-    assert_eq!(rt; figures(&row), (0, 0, 1, 0));
+    let row = in_a_row(alloc, 3, &gain(9, 655).kind)?;
+    assert_eq!(rt; figures(alloc, row, Mode::OneByOne)?, (0, 0, 1, 0));
+    Ok(())
+}
+
+/// Nothing comes of no connection.
+#[test]
+fn one_wave_of_the_output_node_alone(rt: HostRuntime) -> Result<(), Fail> {
+    let alloc = rt.alloc();
     let nodes = vec![in alloc; input(1, 1), output(2, 1)]?;
     let unfed = shared_plan(alloc, graph_of(alloc, nodes, &[])?, Mode::OneByOne)?;
-    assert_eq!(rt; figures(&unfed), (0, 0, 0, 0));
+    let figures = (unfed.latency, unfed.total, unfed.channels, unfed.peak);
+    assert_eq!(rt; figures, (0, 0, 0, 0));
     let counts = (
         unfed.at.len(),
         unfed.lines.len(),
