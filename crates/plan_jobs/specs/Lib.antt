@@ -2,3 +2,4 @@ pub mod Jobs
 pub mod Made
 pub mod Hinges
 pub mod Blocks
+pub mod Sharing

@@ -1,5 +1,9 @@
 //! Which waves are worth more than one thread.
 
+ghost use Rattle.std.specs.Prelude.{◌≡◌, if◌then◌else◌, MatchOption};
+ghost use Rattle.std.specs.List.{list_any};
+ghost use Rattle.plan_jobs.specs.Sharing.{is_worth};
+
 use graph_model::{Graph, Kind};
 use players::Player;
 use pool_waves::Job;
@@ -58,17 +62,23 @@ pub(crate) fn spares_of(
 }
 
 /// Whether a wave is worth more than one thread in a block of so many frames.
-fn is_worth(spare: u64, frames: usize) -> bool {
+fn is_worth(spare: u64, frames: usize) -> bool
+    ensures { result ≡ is_worth frames spare }
+{
     spare.saturating_mul(frames as u64) >= WORTH
 }
 
 /// Whether some wave is worth more than one thread in a block of so many frames.
-pub fn is_some_shared(spares: &[u64], frames: usize) -> bool {
+pub fn is_some_shared(spares: &[u64], frames: usize) -> bool
+    ensures { result ≡ list_any (λ spare. is_worth frames spare) spares.now }
+{
     spares.iter().any(|spare| is_worth(*spare, frames))
 }
 
 /// In how many threads a wave runs, of so many.
-pub(crate) fn threads_for(spare: Option<&u64>, frames: usize, threads: usize) -> usize {
+pub(crate) fn threads_for(spare: Option<&u64>, frames: usize, threads: usize) -> usize
+    ensures { MatchOption spare.entry (result ≡ 1) (λ one. result ≡ (if is_worth frames one.now then threads else 1)) }
+{
     match spare {
         Some(spare) if is_worth(*spare, frames) => threads,
         _ => 1,

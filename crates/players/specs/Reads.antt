@@ -66,6 +66,10 @@ begun false x = x
 abbrev pub SumsFit : List ℕ → List ℤ → Type 0
 SumsFit channels samples = (d m : ℕ) → FitsSigned w64 (sum_on d (take m channels) (take m samples))
 
+-- what comes in comes by one wire, without delay, to the only channel
+abbrev pub AreAlone : List Wire → List (List ℤ) → ℕ → Type 0
+AreAlone wires lines ins = (length wires ≡ 1) × (ins ≡ 1) × (slice_index_or lines 0 [] ≡ [])
+
 -- the samples of a sub-block are all that comes in: they come by one wire, without delay, to the only channel
 pub record IsAlone (ws : List Wire) (ls : List (List ℤ)) (wide : ℕ) (pool outs : List (List ℤ)) (first n : ℕ)
     (alone : List ℤ) : Type 0 where

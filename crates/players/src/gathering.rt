@@ -1,11 +1,11 @@
 //! A sub-block of all that comes into a node.
 
-ghost use Rattle.std.specs.Prelude.{◌≡◌, ℕ, ◌+◌, ◌*◌, ◌^◌, ◌<◌, ◌≤◌, ◌⊎◌, ℤ, pos, ◌+ℤ◌, List, [], length, slice_index_or, FitsSigned, IfSome};
+ghost use Rattle.std.specs.Prelude.{◌≡◌, ℕ, ◌+◌, ◌*◌, ◌^◌, ◌<◌, ◌≤◌, ◌⊎◌, ℤ, pos, ◌+ℤ◌, List, [], length, slice_index_or, FitsSigned, IfSome, IsSome, ◌↔◌};
 ghost use Rattle.std.specs.Int.{w64};
 ghost use Rattle.std.specs.List.{All, Contains};
 ghost use Rattle.delay_lines.specs.Lines.{kept, passed};
 ghost use Rattle.engine_model.specs.Machines.{sum_on};
-ghost use Rattle.players.specs.Reads.{CanRead, IsAlone, IsSet, KnowFirst, SumsFit, begun, channels_of, lines_after, source, taps_at};
+ghost use Rattle.players.specs.Reads.{AreAlone, CanRead, IsAlone, IsSet, KnowFirst, SumsFit, begun, channels_of, lines_after, source, taps_at};
 
 use delay_lines::Line;
 use pool_waves::Buffer;
@@ -169,7 +169,8 @@ pub fn alone<'a>(
     requires lines { length lines.now ≡ length wires.now }
     requires size { first + count < 2 ^ 63 }
     requires sources { (i : ℕ) (d : _) → i < length wires.now → CanRead pool.now outs.now (first + count) (slice_index_or wires.now i d) }
-    ensures { IfSome result (λ samples. IsAlone wires.now lines.now ins pool.now outs.now first count samples.now) }
+    ensures samples { IfSome result (λ samples. IsAlone wires.now lines.now ins pool.now outs.now first count samples.now) }
+    ensures found { IsSome result ↔ AreAlone wires.now lines.now ins }
 {
     if ins != 1 || wires.len() != 1 {
         return None;

@@ -10,20 +10,20 @@ use Rattle.players.proofs.playing.Player.take.Goals as goal
 pub serve-requires-clause-sums : goal.serve-requires-clause-sums
 serve-requires-clause-sums c =
     let is : IsAlone c.args.self.now.wires.items c.args.self.now.lines.items c.args.self.now.ins c.args.pool.now c.args.outs.now c.args.first c.args.count c.in-Some.samples.now
-    = alone_over _ _ _ _ c.args.self.now.ins c.args.pool.now c.args.outs.now c.args.first c.args.count c.in-Some.samples.now c.as_slice-wires.ensures.value c.as_slice.ensures.value c.in-Some.ensures in
+    = alone_over _ _ _ _ c.args.self.now.ins c.args.pool.now c.args.outs.now c.args.first c.args.count c.in-Some.samples.now c.as_slice-wires.ensures.value c.as_slice.ensures.value c.in-Some.ensures.samples in
     alone_room c.args.input.now c.args.channels c.args.pool.now c.args.outs.now c.args.first c.args.count c.args.self.now c.requires c.in-Some.samples.now is
 
 pub serve-requires-clause-within : goal.serve-requires-clause-within
 serve-requires-clause-within c =
     let is : IsAlone c.args.self.now.wires.items c.args.self.now.lines.items c.args.self.now.ins c.args.pool.now c.args.outs.now c.args.first c.args.count c.in-Some.samples.now
-    = alone_over _ _ _ _ c.args.self.now.ins c.args.pool.now c.args.outs.now c.args.first c.args.count c.in-Some.samples.now c.as_slice-wires.ensures.value c.as_slice.ensures.value c.in-Some.ensures in
+    = alone_over _ _ _ _ c.args.self.now.ins c.args.pool.now c.args.outs.now c.args.first c.args.count c.in-Some.samples.now c.as_slice-wires.ensures.value c.as_slice.ensures.value c.in-Some.ensures.samples in
     within c.args.input.now c.args.channels c.args.pool.now c.args.outs.now c.args.first c.args.count c.args.self.now c.requires c.in-Some.samples.now
     (alone_are c.args.input.now c.args.channels c.args.pool.now c.args.outs.now c.args.first c.args.count c.args.self.now c.requires c.in-Some.samples.now is)
 
 pub returns-in-Some-clause-taken : goal.returns-in-Some-clause-taken
 returns-in-Some-clause-taken c =
     let is : IsAlone c.args.self.now.wires.items c.args.self.now.lines.items c.args.self.now.ins c.args.pool.now c.args.outs.now c.args.first c.args.count c.in-Some.samples.now
-    = alone_over _ _ _ _ c.args.self.now.ins c.args.pool.now c.args.outs.now c.args.first c.args.count c.in-Some.samples.now c.as_slice-wires.ensures.value c.as_slice.ensures.value c.in-Some.ensures in
+    = alone_over _ _ _ _ c.args.self.now.ins c.args.pool.now c.args.outs.now c.args.first c.args.count c.in-Some.samples.now c.as_slice-wires.ensures.value c.as_slice.ensures.value c.in-Some.ensures.samples in
     has_taken c.args.input.now c.args.channels c.args.pool.now c.args.outs.now c.args.first c.args.count c.args.self.now c.requires c.in-Some.samples.now
     (alone_are c.args.input.now c.args.channels c.args.pool.now c.args.outs.now c.args.first c.args.count c.args.self.now c.requires c.in-Some.samples.now is)
     (record { wires = c.args.self.now.wires; lines = c.args.self.now.lines; silent = c.args.self.now.silent; server = c.serve.new.self; ins = c.args.self.now.ins; outs = c.args.self.now.outs; sums = c.args.self.now.sums; told = with_items c.args.self.now.told c.serve.new.told; spare = c.args.self.now.spare })
