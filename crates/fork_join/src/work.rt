@@ -1,10 +1,12 @@
 //! Jobs that share what they read, and the call that runs each once in at most so many threads.
 
 ghost use Rattle.std.specs.Prelude.{◌≡◌, ℕ, ◌<◌, ◌≤◌, length, slice_index_or, All};
+ghost use denote.Param.Send.{IsSync, IsSend};
+ghost use Rattle.fork_join.specs.Runs.{HaveRun};
 
 use std::num::NonZeroUsize;
 use std::thread;
-use std::thread::Threads;
+use std::thread::{Threads, join_mut};
 
 /// A job, which changes itself and reads what all jobs of its list share.
 pub trait Work<S> {
@@ -33,7 +35,60 @@ pub fn run<T: Threads + Sync, S: Sync, J: Work<S> + Send>(
     ensures len { length jobs.new ≡ length jobs.old }
     ensures done { (i : ℕ) (d : _) → i < length jobs.old → J.done shared.now (slice_index_or jobs.old i d) (slice_index_or jobs.new i d) }
 {
-    thread::for_each_mut(rt, jobs, threads.max(1), &|_, job| job.work(shared));
+    share(rt, threads, shared, jobs);
+}
+
+/// Runs jobs in turn.
+fn in_turn<T: Threads + Sync, S: Sync, J: Work<S> + Send>(rt: &T, shared: &S, jobs: &mut [J])
+    requires { All (J.ready shared.now) jobs.old }
+    ensures { HaveRun (J.done shared.now) jobs.old jobs.new }
+{
+    thread::for_each_mut(rt, jobs, 1, &|_, job| job.work(shared));
+}
+
+/// Runs jobs in so many threads: the first of as many parts in a new one, and the others in those that are left. So this
+/// thread starts all of them, one after the other, and runs the last part.
+#[cycle(parts)]
+fn share<T: Threads + Sync, S: Sync, J: Work<S> + Send>(
+    rt: &T,
+    threads: usize,
+    shared: &S,
+    jobs: &mut [J],
+)
+    requires { All (J.ready shared.now) jobs.old }
+    ensures { HaveRun (J.done shared.now) jobs.old jobs.new }
+{
+    if threads < 2 || jobs.len() < 2 {
+        in_turn(rt, shared, jobs);
+        return;
+    }
+    let (first, rest) = jobs.split_at_mut(jobs.len().div_ceil(threads));
+    beside(rt, threads - 1, shared, first, rest);
+}
+
+/// Runs the first jobs in a new thread, and the rest in so many.
+#[cycle(parts)]
+fn beside<T: Threads + Sync, S: Sync, J: Work<S> + Send>(
+    rt: &T,
+    threads: usize,
+    shared: &S,
+    first: &mut [J],
+    rest: &mut [J],
+)
+    requires first { All (J.ready shared.now) first.old }
+    requires rest { All (J.ready shared.now) rest.old }
+    ensures first { HaveRun (J.done shared.now) first.old first.new }
+    ensures rest { HaveRun (J.done shared.now) rest.old rest.new }
+{
+    let mut there = ||
+        requires { IsSync T.row × IsSync S.row × IsSend J.row × All (J.ready shared.now) first.now }
+        ensures { HaveRun (J.done shared.entry.now) first.entry.now first.exit.now }
+    { in_turn(rt, shared, first) };
+    let mut here = ||
+        requires { IsSync T.row × IsSync S.row × IsSend J.row × All (J.ready shared.now) rest.now }
+        ensures { HaveRun (J.done shared.entry.now) rest.entry.now rest.exit.now }
+    { share(rt, threads, shared, rest) };
+    join_mut(rt, &mut there, &mut here);
 }
 
 /// How many threads serve: as many as there are processors, and two on any machine. It reads files, which costs about
